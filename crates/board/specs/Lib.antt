@@ -1,0 +1,3 @@
+pub mod Amount
+pub mod Meaning
+pub mod Trimmed
