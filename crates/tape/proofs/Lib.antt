@@ -1,0 +1,12 @@
+mod Counting
+mod Cutting
+mod Digits
+mod Fronts
+mod Judging
+mod Marking
+mod Minus
+mod Naming
+mod Numbers
+mod Openings
+mod Picks
+mod Rows
