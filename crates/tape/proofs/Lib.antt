@@ -3,6 +3,7 @@ mod Cutting
 mod Digits
 mod Fronts
 mod Judging
+mod Lawful
 mod Marking
 mod Minus
 mod Naming

@@ -4,5 +4,6 @@ pub mod Lines
 pub mod Marks
 pub mod Names
 pub mod Opened
+pub mod Rules
 pub mod Scans
 pub mod Values
