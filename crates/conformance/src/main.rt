@@ -11,16 +11,21 @@ use std::alloc::AllocError;
 use std::alloc::Global;
 use std::fs;
 use std::io;
+use tape::opening::*;
+use tape::taking::*;
+use tape::*;
 
 mod cases;
 
 /// What the cases of a file are about.
 #[derive(Clone, Copy)]
 enum Subject {
+    Tapes,
     Frames,
 }
 
 fn main(rt: LibcRuntime) -> io::Result<()> {
+    check(&rt, Subject::Tapes, "tapes")?;
     check(&rt, Subject::Frames, "frames")
 }
 
@@ -58,10 +63,25 @@ fn agrees(case: &Case, came: &str) -> bool {
 /// What the program writes on this case, but of a refusal only the number.
 fn answer(heap: Global, subject: Subject, case: &Case) -> Result<String, AllocError> {
     match trim(case) {
-        Ok(trim) => match subject {
-            Subject::Frames => report_under(heap, Frames::open(case.input.as_slice()), trim, 1),
-        },
+        Ok(trim) => {
+            let input = case.input.as_slice();
+            match subject {
+                Subject::Tapes => tape_answer(heap, input, trim),
+                Subject::Frames => report_under(heap, Frames::open(input), trim, 1),
+            }
+        }
         Err(refusal) => number_line(heap, refusal),
+    }
+}
+
+/// What comes of a tape.
+fn tape_answer(heap: Global, input: &[u8], trim: Option<TrimAmount>) -> Result<String, AllocError> {
+    match Tape::open(input) {
+        Ok(tape) => report_under(heap, tape, trim, 2),
+        Err(fault) => {
+            let number = fault.number();
+            format!(heap, "refused, {number}\n")
+        }
     }
 }
 

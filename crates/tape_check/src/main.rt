@@ -1,0 +1,60 @@
+//! Reports on a tape that comes in by standard input: `tape_check [--trim N]`.
+
+ghost use mathlib.Core.Path.{_≡_};
+ghost use Rattle.std.specs.Of.String.{string-bytes};
+ghost use Rattle.std.specs.Vec.{made};
+ghost use Rattle.tape.specs.Opened.{opened};
+ghost use Rattle.tape_check.specs.Said.{refusalOf, said};
+use board::amount::*;
+use report::arguments::*;
+use report::refusal::*;
+use report::*;
+use std::alloc::AllocError;
+use std::alloc::Global;
+use std::env;
+use std::io;
+use std::io::Read;
+use tape::opening::*;
+use tape::taking::*;
+use tape::*;
+
+/// One byte more than a tape may have: with so many read, it is too long whatever follows.
+const ENOUGH: u64 = 65_537;
+
+/// The report on these bytes as a tape, under the trim that is asked for, or the refusal of them,
+/// in a line; the first value line has place 2.
+fn checked(heap: Global, bytes: &[u8], trim: Option<TrimAmount>) -> Result<String, AllocError>
+    ensures answer { λ r. ⌜ made r (λ s. string-bytes s ≡ said trim (opened (now (bytes .entry)))) ⌝ }
+{
+    match Tape::open(bytes) {
+        Ok(tape) => report_under(heap, tape, trim, 2),
+        Err(fault) => {
+            let refusal = refused(fault);
+            format!(heap, "{refusal}\n")
+        }
+    }
+}
+
+/// The refusal of a tape that is not opened.
+fn refused(fault: TapeFault) -> Refusal
+    ensures answer { λ r. ⌜ r ≡ refusalOf fault ⌝ }
+{
+    match fault {
+        TapeFault::TooLong => Refusal::TapeTooLong,
+        TapeFault::BadNames => Refusal::BadNames,
+    }
+}
+
+fn main(rt: LibcRuntime) -> io::Result<()> {
+    let heap = rt.alloc();
+    let arguments: Vec<String> = env::args(&rt)?.skip(1).collect(heap)?;
+    match requested_trim(arguments.as_slice()) {
+        Ok(trim) => {
+            let mut bytes = Vec::new(heap);
+            rt.stdin().take(ENOUGH).read_to_end(&mut bytes)?;
+            let text = checked(heap, bytes.as_slice(), trim)?;
+            print!(rt, "{text}")
+        }
+        Err(refusal) => println!(rt, "{refusal}"),
+    }
+}
