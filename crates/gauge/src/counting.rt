@@ -78,7 +78,8 @@ fn with_byte(count: u32, byte: CountByte, value: u8) -> u32
 {
     let value = u32::from(value);
     match byte {
-        CountByte::Ccntd3 => count - count / 16_777_216 % 256 * 16_777_216 + value % 16 * 16_777_216,
+        CountByte::Ccntd3 => count - count / 16_777_216 % 256 * 16_777_216
+            + value % 16 * 16_777_216,
         CountByte::Ccntd2 => count - count / 65_536 % 256 * 65_536 + value * 65_536,
         CountByte::Ccntd1 => count - count / 256 % 256 * 256 + value * 256,
         CountByte::Ccntd0 => count - count % 256 + value / 4 * 4,

@@ -1,7 +1,6 @@
 //! The coulomb counter: the charge that is kept, and the count that the chip shows for it.
 
 ghost use Prim.Native.Nat.{_≤_};
-
 use reading::*;
 
 pub mod counting;

@@ -9,14 +9,12 @@ use crate::*;
 /// However many events there were, the count follows the exact charge.
 pub fn the_count_follows_the_charge()
     ensures law { λ _. ⌜ The-count-follows-the-charge ⌝ }
-{
-}
+{}
 
 /// A write leaves the smallest charge with the count that was written.
 pub fn the_least_charge_has_its_count()
     ensures law { λ _. ⌜ The-least-charge-has-its-count ⌝ }
-{
-}
+{}
 
 impl Gauge {
     /// The same gauge after one event more.

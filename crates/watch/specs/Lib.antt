@@ -1,0 +1,4 @@
+pub mod Histories
+pub mod Levels
+pub mod Rows
+pub mod Rule
