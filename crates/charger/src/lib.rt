@@ -1,0 +1,3 @@
+//! The charger: its settings.
+
+pub mod settings;
