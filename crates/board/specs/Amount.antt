@@ -20,3 +20,11 @@ checked a = cond (leZ (negsuc 199) a && leZ a (pos 200)) (Ok a) (Err AmountOutOf
 abbrev pub amounts : Result TrimAmount TrimFault → Result ℤ TrimFault
 amounts (Ok t) = Ok (t .milliamps)
 amounts (Err f) = Err f
+
+-- The number of that answer: 14 for an amount that is not taken, else 0.
+abbrev pub amountNumber : Result TrimAmount TrimFault → ℕ
+amountNumber (Ok t) = 0
+amountNumber (Err f) = trimNumber f
+
+abbrev pub checkedNumber : ℤ → ℕ
+checkedNumber a = cond (leZ (negsuc 199) a && leZ a (pos 200)) 0 14

@@ -1,3 +1,4 @@
 pub mod Amount
 pub mod Meaning
+pub mod Places
 pub mod Trimmed

@@ -13,6 +13,7 @@ pub struct Trim<B> {
 }
 
 impl<B: Board> Trim<B> {
+    /// A trim of this amount over a board.
     pub fn new(below: B, amount: TrimAmount) -> Trim<B>
         ensures below { λ r. ⌜ r .below ≡ below ⌝ }
         ensures amount { λ r. ⌜ r .amount ≡ amount ⌝ }

@@ -5,6 +5,7 @@ ghost use Rattle.reading.specs.Numbers.{causeNumber, kindNumber, faultNumber};
 use crate::*;
 
 impl Cause {
+    /// 1 to 4.
     pub fn number(self) -> u8
         ensures answer { λ r. ⌜ r ≡ causeNumber self ⌝ }
     {
@@ -13,6 +14,7 @@ impl Cause {
 }
 
 impl Kind {
+    /// 1 for a tape, 2 for frames.
     pub fn number(self) -> u8
         ensures answer { λ r. ⌜ r ≡ kindNumber self ⌝ }
     {
@@ -21,6 +23,7 @@ impl Kind {
 }
 
 impl Fault {
+    /// 1, 2 or 4; 3 is for a reading that comes too late, which no board judges.
     pub fn number(self) -> u8
         ensures answer { λ r. ⌜ r ≡ faultNumber self ⌝ }
     {

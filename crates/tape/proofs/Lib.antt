@@ -11,3 +11,4 @@ mod Numbers
 mod Openings
 mod Picks
 mod Rows
+mod Standing

@@ -3,7 +3,9 @@
 ghost use mathlib.Core.Path.{_≡_};
 ghost use Rattle.std.specs.Of.String.{string-bytes};
 ghost use Rattle.std.specs.Vec.{made};
-ghost use Rattle.tape.specs.Opened.{opened};
+ghost use Rattle.std.specs.declared.option.Option.the-variants.{Some};
+ghost use Rattle.report.specs.Refusals.{refusalNumber};
+ghost use Rattle.tape.specs.Opened.{opened, tapeNumber};
 ghost use Rattle.tape_check.specs.Said.{refusalOf, said};
 use board::amount::*;
 use report::arguments::*;
@@ -17,9 +19,6 @@ use std::io::Read;
 use tape::opening::*;
 use tape::taking::*;
 use tape::*;
-
-/// One byte more than a tape may have: with so many read, it is too long whatever follows.
-const ENOUGH: u64 = 65_537;
 
 /// The report on these bytes as a tape, under the trim that is asked for, or the refusal of them,
 /// in a line; the first value line has place 2.
@@ -38,6 +37,7 @@ fn checked(heap: Global, bytes: &[u8], trim: Option<TrimAmount>) -> Result<Strin
 /// The refusal of a tape that is not opened.
 fn refused(fault: TapeFault) -> Refusal
     ensures answer { λ r. ⌜ r ≡ refusalOf fault ⌝ }
+    ensures number { λ r. ⌜ refusalNumber r ≡ Some (tapeNumber fault) ⌝ }
 {
     match fault {
         TapeFault::TooLong => Refusal::TapeTooLong,
@@ -66,7 +66,7 @@ fn main(rt: LibcRuntime) -> io::Result<()> {
     match asked(&rt)? {
         Ok(trim) => {
             let mut bytes = Vec::new(heap);
-            rt.stdin().take(ENOUGH).read_to_end(&mut bytes)?;
+            rt.stdin().take(enough() as u64).read_to_end(&mut bytes)?;
             let text = checked(heap, bytes.as_slice(), trim)?;
             print!(rt, "{text}")
         }

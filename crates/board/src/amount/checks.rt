@@ -1,6 +1,8 @@
+//! Making an amount, and what it does to a reading. Apart from the type, whose limits these definitions name.
+
 ghost use mathlib.Core.Path.{_≡_};
 ghost use Rattle.reading.specs.Limits.{measured};
-ghost use Rattle.board.specs.Amount.{checked, amounts, trimNumber};
+ghost use Rattle.board.specs.Amount.{checked, amounts, trimNumber, amountNumber, checkedNumber};
 ghost use Rattle.board.specs.Trimmed.{shifted};
 use crate::amount::*;
 use reading::*;
@@ -9,6 +11,7 @@ impl TrimAmount {
     /// This amount, or a refusal where it lies outside -200 to 200 mA.
     pub fn new(amount: Milliamps) -> Result<TrimAmount, TrimFault>
         ensures answer { λ r. ⌜ amounts r ≡ checked (amount .0) ⌝ }
+        ensures number { λ r. ⌜ amountNumber r ≡ checkedNumber (amount .0) ⌝ }
     {
         if amount.0 < -200 || amount.0 > 200 {
             return Err(TrimFault::AmountOutOfRange);
@@ -34,6 +37,7 @@ impl TrimAmount {
 }
 
 impl TrimFault {
+    /// The number by which firmware and clerks know this refusal.
     pub fn number(self) -> u8
         ensures answer { λ r. ⌜ r ≡ trimNumber self ⌝ }
     {
