@@ -15,6 +15,7 @@ use tape::opening::*;
 use tape::taking::*;
 use tape::*;
 
+mod boards;
 mod cases;
 
 /// What the cases of a file are about.
@@ -26,7 +27,8 @@ enum Subject {
 
 fn main(rt: LibcRuntime) -> io::Result<()> {
     check(&rt, Subject::Tapes, "tapes")?;
-    check(&rt, Subject::Frames, "frames")
+    check(&rt, Subject::Frames, "frames")?;
+    boards::check(&rt)
 }
 
 /// Runs the cases of one file, with a line for each that differs and a line at the end.
