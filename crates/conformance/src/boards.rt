@@ -128,7 +128,7 @@ fn understood(heap: Global, option: &str, amount: &str) -> Result<u8, AllocError
 }
 
 /// How many of these go wrong.
-pub fn wrong(heap: Global) -> Result<u64, AllocError> {
+pub(crate) fn wrong(heap: Global) -> Result<u64, AllocError> {
     let mut wrong: u64 = 0;
     for right in [tape_calls(), frame_calls(), trim_calls()] {
         if !right {
@@ -144,7 +144,7 @@ pub fn wrong(heap: Global) -> Result<u64, AllocError> {
 }
 
 /// The line of these cases.
-pub fn check(rt: &LibcRuntime) -> io::Result<()> {
+pub(crate) fn check(rt: &LibcRuntime) -> io::Result<()> {
     let wrong = wrong(rt.alloc())?;
     println!(rt, "boards and arguments: 19 cases, {wrong} wrong")
 }

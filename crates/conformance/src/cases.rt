@@ -23,7 +23,7 @@ pub struct Case {
 }
 
 /// The cases of a file.
-pub fn read_cases(heap: Global, text: &str) -> Result<Vec<Case>, AllocError> {
+pub(crate) fn read_cases(heap: Global, text: &str) -> Result<Vec<Case>, AllocError> {
     let mut cases = Vec::new(heap);
     for line in text.lines() {
         if let Some(title) = line.strip_prefix("case ") {

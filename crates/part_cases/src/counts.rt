@@ -157,7 +157,7 @@ const CASES: [Case; 18] = [
     },
 ];
 
-pub fn check(rt: &LibcRuntime) -> io::Result<()> {
+pub(crate) fn check(rt: &LibcRuntime) -> io::Result<()> {
     let mut wrong: u64 = 0;
     for case in CASES {
         let gauge = run(case.events);

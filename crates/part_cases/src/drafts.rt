@@ -246,7 +246,7 @@ fn agrees(case: Case) -> bool {
     }
 }
 
-pub fn check(rt: &LibcRuntime) -> io::Result<()> {
+pub(crate) fn check(rt: &LibcRuntime) -> io::Result<()> {
     let mut wrong: u64 = 0;
     for case in CASES {
         if !agrees(case) {

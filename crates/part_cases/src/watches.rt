@@ -159,7 +159,7 @@ fn stands<T: Threshold + Copy>(
     early && alarm.bit() == bits[1]
 }
 
-pub fn check(rt: &LibcRuntime) -> io::Result<()> {
+pub(crate) fn check(rt: &LibcRuntime) -> io::Result<()> {
     let mut wrong: u64 = 0;
     for case in CURRENTS {
         let alarm = Alarm::new(OverCurrent::of_byte(case.threshold), case.duration);
