@@ -30,7 +30,7 @@ pub struct Draft {
     pub vbat_mnt: Millivolts,
 }
 
-/// Settings that passed the check. Only the check makes them, and making a charger uses them up.
+/// Settings within their ranges and in order: a draft that passed the check, or the standard settings.
 #[derive(Drop)]
 pub struct Settings {
     draft: Draft,

@@ -44,6 +44,7 @@ impl Row {
         ensures thresholds { λ r. ⌜ map (λ a. a .run .threshold .above .0) (r .alarms) ≡ 6250 ∷ 4700 ∷ 3900 ∷ [] ⌝ }
         ensures durations { λ r. ⌜ map (λ a. a .duration) (r .alarms) ≡ 100 ∷ 140 ∷ 165 ∷ [] ⌝ }
         ensures runs { λ r. ⌜ map (λ a. a .run .first) (r .alarms) ≡ None ∷ None ∷ None ∷ [] ⌝ }
+        ensures newest { λ r. ⌜ map (λ a. a .run .last) (r .alarms) ≡ 0 ∷ 0 ∷ 0 ∷ [] ⌝ }
         ensures bits { λ r. ⌜ map (λ a. a .bit) (r .alarms) ≡ false ∷ false ∷ false ∷ [] ⌝ }
     {
         let first = Alarm::new(OverCurrent::of_byte(0x7d), 0x64);

@@ -73,7 +73,7 @@ impl Draft {
 }
 
 impl Settings {
-    /// The standard settings, which pass the check.
+    /// The standard settings. They would pass the check, so nobody has to handle a refusal of them.
     pub fn standard() -> Settings
         ensures answer { λ r. ⌜ r .draft ≡ standardDraft ⌝ }
         ensures passes { λ r. ⌜ checked (r .draft) ≡ Ok (r .draft) ⌝ }
