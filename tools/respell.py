@@ -14,7 +14,7 @@ import os
 import re
 import sys
 
-TOKEN = re.compile(r"[^\s(){}.;,@\"«»`]+")
+TOKEN = re.compile(r"[^\s(){}.:;,@\"«»`]+")
 DECLARED = re.compile(r"^(\s*)(?:pub |abbrev |record |data |unfoldable )*([^\s(){}.:;,@\"«»=]+)\s*(?:[({][^=]*?[)}]\s*)*:(?:\s|$)")
 GOAL = re.compile(r":\s*goal\.(\S+)")
 GHOST = re.compile(r"ghost\s+([A-Za-z_]\w*)\s*[:=]\s*\{")

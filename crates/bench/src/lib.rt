@@ -1,4 +1,5 @@
 //! The bench numbers: numbers that a bench can check by hand, in one table, and the law that every row of it holds.
+#![tactic(auto)]
 
 ghost use Rattle.bench.specs.Table.{TheBenchNumbersHold};
 

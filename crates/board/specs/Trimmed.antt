@@ -1,5 +1,5 @@
 -- What a trim makes of the meaning of the board below it.
-use Rattle.std.specs.Prelude.{List, map, ℤ, pos, negsuc, ◌+ℤ◌}
+use Rattle.std.specs.Prelude.{map, ℤ, pos, ◌+ℤ◌}
 use Rattle.std.specs.Int.{int_max, int_min}
 use Rattle.reading.specs.declared.Measured.{Measured}
 use Rattle.reading.specs.Limits.{lowest_cur}

@@ -1,4 +1,5 @@
 //! A board hands over conversions one by one and drives a charging current.
+#![tactic(auto)]
 
 ghost use Rattle.std.specs.Prelude.{◌≡◌, ℕ, ◌≤◌};
 ghost use Rattle.board.specs.Meaning.{Meaning, first, taken, drive_answer, driving, plain, number_of, take_number, drive_number};

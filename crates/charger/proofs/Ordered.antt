@@ -1,5 +1,5 @@
 -- Which group of rules decides.
-use Rattle.std.proofs.Common.{◌≡◌, Bool, true, false, cond, ◌&&◌, leb, ◌⊎◌, List, [], ◌∷◌, ◌++◌, sym, refl, ap, ◌∙◌, inl, inr, ⊎_elim}
+use Rattle.std.proofs.Common.{◌≡◌, Bool, true, false, ◌&&◌, leb, ◌⊎◌, List, [], ◌∷◌, ◌++◌, sym, refl, ap, ◌∙◌, inl, inr, ⊎_elim}
 use Rattle.std.proofs.lemmas.Bool.{and_left, and_right, cond-true, cond-false, or_from, true≢false}
 use Rattle.charger.specs.Codes.{same}
 use Rattle.charger.specs.Rules.{Facts, Rule, rule, any, among, barred, outside, heat_rules, hot_limit, range_rules, first_fit, next}

@@ -1,11 +1,11 @@
 -- A charger charges where it may, and no code outlasts its clock.
-use Rattle.std.proofs.Common.{◌≡◌, ℕ, ◌<◌, ◌≤◌, Bool, true, false, cond, not, ◌||◌, ltb, leb, ◌⊎◌, List, [], ◌∷◌, pos, ◌≤ℤ◌, sym, refl, ap, ◌∙◌, subst, inl, inr, ⊎_elim, arith}
+use Rattle.std.proofs.Common.{◌≡◌, ℕ, ◌<◌, ◌≤◌, Bool, true, false, cond, not, ltb, leb, ◌⊎◌, List, [], ◌∷◌, pos, ◌≤ℤ◌, sym, refl, ap, ◌∙◌, inl, inr, ⊎_elim, arith}
 use lib.Signed.{lt_z}
 use Rattle.std.proofs.lemmas.Int.{ints}
 use Rattle.std.proofs.lemmas.Bool.{cases_Bool, cond-true, cond-false, leb-true, leb-false, not_from_true, or_from, true≢false}
 use Rattle.reading.specs.declared.Measured.{Measured}
 use Rattle.charger.specs.Codes.{same}
-use Rattle.charger.specs.Histories.{Event, took, after, code_now, facts_at, hold_out, input_good, over_voltage, readings, reset_bit, story_of}
+use Rattle.charger.specs.Histories.{Event, took, code_now, facts_at, hold_out, over_voltage, readings, reset_bit, story_of}
 use Rattle.charger.specs.Laws.{MayCharge, charges, ItChargesWhereItMay, NoCodeOutlastsItsClock, NoDetourStartsAClock, NothingComesBeforeItsClock}
 use Rattle.charger.specs.Rules.{Facts, above, among, barred, nearly_full, outside, heat_rules, range_rules, first_fit, next, pre_limit, fast_limit, top_limit, hot_limit}
 use Rattle.charger.specs.declared.Code.{Code}
@@ -14,7 +14,7 @@ use Rattle.charger.specs.declared.settings.Draft.{Draft}
 use Rattle.charger.proofs.Following.{follows}
 use Rattle.charger.proofs.Lasting.{lasting, lasted}
 use Rattle.charger.proofs.Ordered.{when_reset, when_barred, when_outside, when_inside}
-use Rattle.charger.proofs.Safety.{Free, free, no_charge}
+use Rattle.charger.proofs.Safety.{free, no_charge}
 
 -- a code is not another that the numbers tell from it
 clash : {P : Type 0} (x y : Code) → same x y ≡ false → x ≡ y → same y y ≡ true → P

@@ -1,5 +1,5 @@
 -- A draft with no setting out of range has each within its range.
-use Rattle.std.proofs.Common.{◌≡◌, ℕ, ◌≤◌, Bool, true, false, cond, ◌&&◌, T, leb, List, [], ◌∷◌, ℤ, pos, ◌≤ℤ◌, Some, None, sym, refl, ◌∙◌, subst, ⊎_elim, arith}
+use Rattle.std.proofs.Common.{◌≡◌, ℕ, ◌≤◌, true, ◌&&◌, T, leb, List, [], ◌∷◌, ℤ, pos, ◌≤ℤ◌, Some, None, sym, ◌∙◌, subst, ⊎_elim, arith}
 use lib.Signed.{le_z, le_z_yes}
 use Rattle.std.proofs.lemmas.Bool.{and_parts, cases_Bool, cond-true, cond-false, leb-true}
 use Rattle.charger.specs.declared.settings.Draft.{Draft}

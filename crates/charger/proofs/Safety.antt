@@ -1,12 +1,12 @@
 -- A battery error waits for a reset, and a current is driven only where it is safe.
 use Rattle.std.proofs.Common.{◌≡◌, ℕ, ◌<◌, min, Bool, true, false, cond, not, ◌&&◌, ◌||◌, T, leb, ◌⊎◌, List, [], ◌∷◌, pos, ◌≤ℤ◌, sym, refl, ap, ◌∙◌, subst, inl, inr, ⊎_elim, arith}
 use lib.Signed.{lt_z, lt_z_no}
-use Rattle.std.proofs.lemmas.Bool.{and_left, both_ways, cases_Bool, cond-true, cond-false, not-false, not_from_false, or_cases, or_parts, or_right, true≢false}
+use Rattle.std.proofs.lemmas.Bool.{both_ways, cases_Bool, cond-true, cond-false, not-false, not_from_false, or_parts, or_right, true≢false}
 use Rattle.reading.specs.declared.Measured.{Measured}
 use Rattle.charger.specs.Chargers.{suspended}
 use Rattle.charger.specs.Codes.{asked, same}
-use Rattle.charger.specs.Histories.{Event, took, wrote, hold, release, after, code_now, facts_at, input_good, over_voltage, readings, reset_bit, story_of}
-use Rattle.charger.specs.Laws.{Safe, Waiting, charges, erred, ABatteryErrorWaitsForAReset, ItDrivesOnlyWhereItIsSafe}
+use Rattle.charger.specs.Histories.{Event, took, wrote, hold, release, code_now, facts_at, readings, reset_bit, story_of}
+use Rattle.charger.specs.Laws.{Safe, charges, erred, ABatteryErrorWaitsForAReset, ItDrivesOnlyWhereItIsSafe}
 use Rattle.charger.specs.Rules.{Facts, barred, outside, heat_rules, hot_limit, first_fit, next}
 use Rattle.charger.specs.declared.Code.{Code}
 use Rattle.charger.specs.declared.Code.TheVariants.{Suspend, TrickleCharge, PreCharge, FastCharge, BatDet, TopOff, Done, TempErr1, TempErr2, TempErr3, TempErr4, TempErr5, BattAssist1, BattAssist2, BattAssist3, BattError}

@@ -1,5 +1,5 @@
 -- A clock counts from a tick exactly where it was started there, and nowhere later.
-use Rattle.std.proofs.Common.{◌≡◌, ℕ, Bool, true, false, cond, List, [], ◌∷◌, ◌++◌, Some, None, Option, sym, refl, ap, ◌∙◌, ⊎_elim, arith}
+use Rattle.std.proofs.Common.{◌≡◌, ℕ, Bool, true, false, List, [], ◌∷◌, ◌++◌, Some, None, Option, sym, refl, ap, ◌∙◌, ⊎_elim, arith}
 use Rattle.std.proofs.lemmas.Bool.{cases_Bool, cond-true, cond-false}
 use Rattle.reading.specs.declared.Measured.{Measured}
 use Rattle.charger.specs.Histories.{Event, took, wrote, hold, release, Moment, code_now, left_by, left_at}

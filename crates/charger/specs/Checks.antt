@@ -1,5 +1,5 @@
 -- The check of a draft.
-use Rattle.std.specs.Prelude.{◌≡◌, ℕ, Bool, true, false, cond, ◌&&◌, List, [], ◌∷◌, ◌++◌, map, ℤ, pos, Some, None, Ok, Err, Option, Result, int_le, nat_le, nat_lt}
+use Rattle.std.specs.Prelude.{◌≡◌, ℕ, Bool, true, false, cond, ◌&&◌, List, [], ◌∷◌, ◌++◌, map, pos, Some, None, Ok, Err, Option, Result, int_le, nat_le, nat_lt}
 use Rattle.std.specs.List.{AllByRecursion as All}
 use Rattle.charger.specs.declared.settings.Draft.{Draft}
 use Rattle.charger.specs.declared.settings.Setting.{Setting}

@@ -1,4 +1,5 @@
 //! The charger: its settings, the codes that it walks through, and what leads it from one to the next.
+#![tactic(auto)]
 
 use crate::settings::*;
 use reading::*;

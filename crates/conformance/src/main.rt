@@ -1,5 +1,6 @@
 //! Runs the cases of `tapes.txt` and `frames.txt` through the functions that the programs call, and
 //! says which come to something else than they should.
+#![tactic(auto)]
 
 use board::amount::*;
 use cases::*;

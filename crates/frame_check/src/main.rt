@@ -1,4 +1,5 @@
 //! Reports on a dump of frames that comes in by standard input: `frame_check [--trim N]`.
+#![tactic(auto)]
 
 ghost use Rattle.std.specs.Prelude.{◌≡◌, IfOk, string_bytes};
 ghost use Rattle.frames.specs.Dump.{opened};

@@ -1,5 +1,5 @@
 -- A written byte is read back, and the others stay.
-use Rattle.std.proofs.Common.{◌≡◌, ℕ, ◌+◌, ◌-◌, ◌*◌, ◌/◌, ◌%◌, ◌<◌, ◌≤◌, sym, refl, ap, ◌∙◌, arith}
+use Rattle.std.proofs.Common.{◌≡◌, ℕ, ◌+◌, ◌-◌, ◌*◌, ◌/◌, ◌%◌, ◌<◌, ◌≤◌, sym, ap, ◌∙◌, arith}
 use Rattle.gauge.specs.declared.CountByte.{CountByte}
 use Rattle.gauge.specs.declared.CountByte.TheVariants.{Ccntd3, Ccntd2, Ccntd1, Ccntd0}
 use Rattle.gauge.specs.Charges.{joined, with, writing, ACountHas28Bits, AWrittenByteIsReadBack, AnyCountCanBeWritten}

@@ -1,11 +1,11 @@
 -- The kept charge is the exact one while that stays in range, and the count is close to it.
-use Rattle.std.proofs.Common.{◌≡◌, ℕ, suc, ◌+◌, ◌-◌, ◌*◌, ◌/◌, ◌<◌, ◌≤◌, min, List, [], ◌∷◌, reverse, length, get_or, take, ℤ, pos, negsuc, ◌+ℤ◌, ◌*ℤ◌, neg_ℤ, ◌≤ℤ◌, ◌<ℤ◌, sym, refl, ap, ◌∙◌, subst, arith}
+use Rattle.std.proofs.Common.{◌≡◌, ℕ, suc, ◌+◌, ◌-◌, ◌*◌, ◌<◌, min, List, [], ◌∷◌, reverse, length, get_or, take, ℤ, pos, negsuc, ◌+ℤ◌, ◌*ℤ◌, neg_ℤ, ◌≤ℤ◌, sym, refl, ap, ◌∙◌, subst, arith}
 use Rattle.std.proofs.lemmas.List.{take_more, reverse-append}
 use Rattle.std.proofs.lemmas.Int.{ints}
 use Rattle.gauge.specs.declared.Event.{Event}
 use Rattle.gauge.specs.declared.Event.TheVariants.{Flowed, Written}
 use Rattle.gauge.specs.Charges.{kept, exact, Stayed, Close, TheCountFollowsTheCharge, TheLeastChargeHasItsCount}
-use Rattle.gauge.specs.Counts.{fullest, flowing, count_of, least_for}
+use Rattle.gauge.specs.Counts.{fullest, flowing, count_of}
 
 -- one flow, in range
 charges : (q n : ℕ) → (pos q +ℤ pos n) ≤ℤ pos fullest → pos (min (q + n) fullest) ≡ pos q +ℤ pos n

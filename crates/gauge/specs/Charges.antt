@@ -1,5 +1,5 @@
 -- The charge over a whole run: what is kept, what is exact, and how close the count stays.
-use Rattle.std.specs.Prelude.{◌≡◌, ℕ, suc, ◌+◌, ◌-◌, ◌*◌, ◌^◌, ◌<◌, ◌≤◌, min, cond, List, [], ◌∷◌, ℤ, pos, negsuc, ◌+ℤ◌, ◌*ℤ◌, ◌≤ℤ◌, ◌<ℤ◌, ◌==◌}
+use Rattle.std.specs.Prelude.{◌≡◌, ℕ, ◌+◌, ◌*◌, ◌^◌, ◌<◌, ◌≤◌, cond, List, [], ◌∷◌, ℤ, pos, ◌+ℤ◌, ◌*ℤ◌, ◌≤ℤ◌, ◌<ℤ◌, ◌==◌}
 use Rattle.gauge.specs.declared.CountByte.{CountByte}
 use Rattle.gauge.specs.declared.CountByte.TheVariants.{Ccntd3, Ccntd2, Ccntd1, Ccntd0}
 use Rattle.gauge.specs.declared.Event.{Event}

@@ -1,4 +1,5 @@
 //! The coulomb counter: the charge that is kept, and the count that the chip shows for it.
+#![tactic(auto)]
 
 ghost use Rattle.std.specs.Prelude.{◌≤◌};
 

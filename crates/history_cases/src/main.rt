@@ -1,4 +1,5 @@
 //! Runs worked cases through the count, the alarms, the settings and the charger, and says which go wrong.
+#![tactic(auto)]
 
 use alarms::*;
 use chargers::*;

@@ -1,4 +1,5 @@
 //! Runs worked cases through the count, the alarms and the settings, and says which go wrong.
+#![tactic(auto)]
 
 use std::io;
 

@@ -1,4 +1,5 @@
 //! What a board measures: a reading, or a blank that says why there is none.
+#![tactic(auto)]
 
 ghost use Rattle.std.specs.Prelude.{◌≤◌, pos, negsuc, ◌≤ℤ◌};
 
@@ -36,14 +37,14 @@ pub struct Reading {
     pub cur: Milliamps,
     /// The battery's temperature.
     pub temp: Celsius,
-    ghost tickTop: { tick ≤ 1099511627776 },
-    ghost vbatTop: { vbat.0 ≤ 6000 },
-    ghost vsysTop: { vsys.0 ≤ 6000 },
-    ghost dcinTop: { dcin.0 ≤ 30000 },
-    ghost curLow: { negsuc 16382 ≤ℤ cur.0 },
-    ghost curTop: { cur.0 ≤ℤ pos 16383 },
-    ghost tempLow: { negsuc 54 ≤ℤ temp.0 },
-    ghost tempTop: { temp.0 ≤ℤ pos 200 },
+    ghost tick_top: { tick ≤ 1099511627776 },
+    ghost vbat_top: { vbat.0 ≤ 6000 },
+    ghost vsys_top: { vsys.0 ≤ 6000 },
+    ghost dcin_top: { dcin.0 ≤ 30000 },
+    ghost cur_low: { negsuc 16382 ≤ℤ cur.0 },
+    ghost cur_top: { cur.0 ≤ℤ pos 16383 },
+    ghost temp_low: { negsuc 54 ≤ℤ temp.0 },
+    ghost temp_top: { temp.0 ≤ℤ pos 200 },
 }
 
 /// Six numbers in the columns of a reading, before anyone asked whether they lie within its limits.

@@ -1,5 +1,5 @@
 -- The arguments of a program, by how many there are and what the first one is.
-use Rattle.std.proofs.Common.{◌≡◌, ℕ, Bool, true, false, List, [], ◌∷◌, map, length, get_or, None, Ok, Err, codes, sym, refl, ap, ◌∙◌, ⊎_elim, arith}
+use Rattle.std.proofs.Common.{◌≡◌, ℕ, true, false, List, [], ◌∷◌, map, length, get_or, None, Ok, Err, codes, sym, refl, ap, ◌∙◌, ⊎_elim, arith}
 use Rattle.std.specs.Str.{bytes_eq}
 use Rattle.std.proofs.lemmas.Slice.Eq.{bytes_eq-Decides}
 use Rattle.std.proofs.lemmas.Bool.{cases_Bool}
@@ -26,7 +26,7 @@ module _ {X : Type 0} (f : X → List ℕ) where
   two (x ∷ y ∷ []) a b h p q = rw (p, q)
   two (x ∷ y ∷ z ∷ xs) a b h p q = absurd (omega arith)
 
-  pub asked_trim : (xs : List X) (a b : X) (s t : List ℕ) → length xs ≡ 2 → a ≡ get_or xs 0 a → b ≡ get_or xs 1 b → s ≡ f a → t ≡ f b → s ≡ codes "--trim" → asked (map f xs) ≡ some (amountRead t)
+  pub asked_trim : (xs : List X) (a b : X) (s t : List ℕ) → length xs ≡ 2 → a ≡ get_or xs 0 a → b ≡ get_or xs 1 b → s ≡ f a → t ≡ f b → s ≡ codes "--trim" → asked (map f xs) ≡ some (amount_read t)
   asked_trim xs a b s t h p q e u o = ap asked (two xs a b h p q) ∙ rw (sym e, sym u, o)
 
   pub asked_no_trim : (xs : List X) (a : X) → length xs ≡ 2 → a ≡ get_or xs 0 a → (f a ≡ codes "--trim" → ⊥) → asked (map f xs) ≡ Err UnknownArgument

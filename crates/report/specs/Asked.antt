@@ -58,7 +58,7 @@ some (Err f) = Err f
 abbrev pub asked : List (List ℕ) → Result (Option ℤ) Refusal
 asked [] = Ok None
 asked (option ∷ []) = Err UnknownArgument
-asked (option ∷ amount ∷ []) = cond (bytes_eq option (codes "--trim")) (some (amountRead amount)) (Err UnknownArgument)
+asked (option ∷ amount ∷ []) = cond (bytes_eq option (codes "--trim")) (some (amount_read amount)) (Err UnknownArgument)
 asked (option ∷ amount ∷ extra ∷ more) = Err UnknownArgument
 
 -- The answer to reading the arguments, with the amount as a number.

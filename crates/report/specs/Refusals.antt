@@ -1,5 +1,5 @@
 -- Why a program gives no report, and how it says so.
-use Rattle.std.specs.Prelude.{ℕ, List, [], ◌∷◌, ◌++◌, Some, None, codes, decimal, Option, MatchOption}
+use Rattle.std.specs.Prelude.{ℕ, List, ◌++◌, Some, None, codes, decimal, Option}
 use Rattle.report.specs.declared.refusal.Refusal.{Refusal}
 use Rattle.report.specs.declared.refusal.Refusal.TheVariants.{TapeTooLong, BadNames, AmountOutOfRange, NoWholeNumber, UnknownArgument}
 

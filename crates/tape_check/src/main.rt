@@ -1,4 +1,5 @@
 //! Reports on a tape that comes in by standard input: `tape_check [--trim N]`.
+#![tactic(auto)]
 
 ghost use Rattle.std.specs.Prelude.{◌≡◌, IfOk, Some, string_bytes};
 ghost use Rattle.report.specs.Refusals.{refusal_number};

@@ -1,5 +1,5 @@
 -- What one reading, or one write, does to a run and to an alarm.
-use Rattle.std.specs.Prelude.{ℕ, ◌-◌, Bool, true, false, cond, ◌&&◌, is_some, Some, None, Option, nat_le}
+use Rattle.std.specs.Prelude.{ℕ, ◌-◌, Bool, false, cond, ◌&&◌, is_some, Some, None, Option, nat_le}
 use Rattle.std.specs.Option.{unwrap_or}
 use Rattle.reading.specs.declared.Measured.{Measured}
 use Rattle.watch.specs.declared.Alarm.{Alarm}

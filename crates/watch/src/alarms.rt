@@ -20,7 +20,7 @@ impl<T: Threshold + Copy> Alarm<T> {
 
     /// Takes one good reading into account.
     pub fn see(&mut self, reading: &Reading)
-        ensures after { self.new ≡ sensed passes (measured reading.now) self.old }
+        ensures after { self.new ≡ sensed T.passes (measured reading.now) self.old }
     {
         self.run.see(reading);
         self.bit = self.run.lasts() && self.run.span() >= u64::from(self.duration);

@@ -1,4 +1,5 @@
 //! Alarms: a watched quantity, the run of readings past its threshold, and the bit that tells of it.
+#![tactic(auto)]
 
 ghost use Rattle.std.specs.Prelude.{◌≡◌, Bool};
 ghost use Rattle.reading.specs.declared.Measured.{Measured};

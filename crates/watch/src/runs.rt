@@ -20,7 +20,7 @@ impl<T: Threshold + Copy> Run<T> {
 
     /// Takes one reading more into account.
     pub fn see(&mut self, reading: &Reading)
-        ensures after { self.new ≡ seen passes (measured reading.now) self.old }
+        ensures after { self.new ≡ seen T.passes (measured reading.now) self.old }
     {
         self.last = reading.tick;
         if self.threshold.is_past(reading) {

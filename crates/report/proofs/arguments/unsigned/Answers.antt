@@ -9,5 +9,5 @@ returns-then-text-eq45 c =
     let m : minus c.args.text.now ≡ true = eq-eqb _ _ c.if-text-eq45.true in
     record { sign = sym m; rest = rw (m, take_rest) }
 
-pub returns-else-not-is-empty : goal.returns-else-not-is-empty
-returns-else-not-is-empty c = search (rules, get_or_past)
+pub returns-else-not-is_empty : goal.returns-else-not-is_empty
+returns-else-not-is_empty c = search (rules, get_or_past)
