@@ -1,7 +1,7 @@
 -- A check tells what is wrong with a draft.
 use Rattle.std.proofs.Common.{◌≡◌, ℕ, Bool, true, false, cond, ◌⊎◌, List, [], ◌∷◌, ◌++◌, Some, None, Ok, Err, Option, Result, sym, refl, ap, ◌∙◌, subst, inl, inr, ⊎_elim, arith}
 use Rattle.std.proofs.lemmas.Bool.{cases_Bool, cond-true, cond-false}
-use Rattle.std.specs.List.{AllByRecursion as All}
+use Rattle.std.specs.List.{AllByRecursion}
 use Rattle.charger.specs.Checks.{FirstBad, InRanges, in_range, in_order, settings, first_bad, judged, checked, ACheckTellsWhatIsWrong}
 use Rattle.charger.specs.declared.settings.Draft.{Draft}
 use Rattle.charger.specs.declared.settings.Setting.{Setting}
@@ -13,7 +13,7 @@ module _ (d : Draft) where
   Good q = in_range q d ≡ true
 
   -- either all are within their ranges, or there is a first that is not
-  looked : (ss : List Setting) → ((first_bad d ss ≡ None) × All Good ss) ⊎ ((s : Setting) × (first_bad d ss ≡ Some s) × FirstBad d ss s)
+  looked : (ss : List Setting) → ((first_bad d ss ≡ None) × AllByRecursion Good ss) ⊎ ((s : Setting) × (first_bad d ss ≡ Some s) × FirstBad d ss s)
   looked [] = inl (refl, tt)
   looked (q ∷ qs) =
       ⊎_elim
@@ -24,11 +24,11 @@ module _ (d : Draft) where
       (λ n. inr (q, cond-false _ _ _ n, record { earlier = []; later = qs; order = refl; good = tt; bad = n }))
       (cases_Bool (in_range q d))
 
-  first_at : (earlier later : List Setting) (s : Setting) → All Good earlier → in_range s d ≡ false → first_bad d (earlier ++ (s ∷ later)) ≡ Some s
+  first_at : (earlier later : List Setting) (s : Setting) → AllByRecursion Good earlier → in_range s d ≡ false → first_bad d (earlier ++ (s ∷ later)) ≡ Some s
   first_at [] later s g b = cond-false _ _ _ b
   first_at (q ∷ qs) later s g b = cond-true _ _ _ g.0 ∙ first_at qs later s g.1 b
 
-  none_bad : (ss : List Setting) → All Good ss → first_bad d ss ≡ None
+  none_bad : (ss : List Setting) → AllByRecursion Good ss → first_bad d ss ≡ None
   none_bad [] g = refl
   none_bad (q ∷ qs) g = cond-true _ _ _ g.0 ∙ none_bad qs g.1
 

@@ -1,6 +1,6 @@
 -- The check of a draft.
 use Rattle.std.specs.Prelude.{◌≡◌, ℕ, Bool, true, false, cond, ◌&&◌, List, [], ◌∷◌, ◌++◌, map, pos, Some, None, Ok, Err, Option, Result, int_le, nat_le, nat_lt}
-use Rattle.std.specs.List.{AllByRecursion as All}
+use Rattle.std.specs.List.{AllByRecursion}
 use Rattle.charger.specs.declared.settings.Draft.{Draft}
 use Rattle.charger.specs.declared.settings.Setting.{Setting}
 use Rattle.charger.specs.declared.settings.Setting.TheVariants.{VpreLo, VpreHi, Itri, Ipre, Ifst, IfstTerm, VbatOvp, VbatChg, VbatMnt}
@@ -60,11 +60,11 @@ pub record FirstBad (d : Draft) (ss : List Setting) (s : Setting) : Type 0 where
   pub earlier : List Setting
   pub later : List Setting
   pub order : ss ≡ earlier ++ (s ∷ later)
-  pub good : All (λ q. in_range q d ≡ true) earlier
+  pub good : AllByRecursion (λ q. in_range q d ≡ true) earlier
   pub bad : in_range s d ≡ false
 
 abbrev pub InRanges : Draft → Type 0
-InRanges d = All (λ q. in_range q d ≡ true) settings
+InRanges d = AllByRecursion (λ q. in_range q d ≡ true) settings
 
 -- What a check says of a draft: that a setting is out of its range exactly where it is the first such, that the
 -- voltages are out of order exactly where all settings are in their ranges and the order is wrong, and that the draft

@@ -1,6 +1,6 @@
 -- What can be relied on of a charger, whatever happened to it.
 use Rattle.std.specs.Prelude.{◌≡◌, ℕ, ◌+◌, ◌*◌, ◌<◌, ◌≤◌, min, Bool, true, false, cond, not, ◌&&◌, ◌||◌, ◌⊎◌, List, [], ◌∷◌, ◌++◌, pos, ◌≤ℤ◌, Some, ◌≢◌}
-use Rattle.std.specs.List.{AllByRecursion as All}
+use Rattle.std.specs.List.{AllByRecursion}
 use Rattle.reading.specs.declared.Measured.{Measured}
 use Rattle.watch.specs.Histories.{Each}
 use Rattle.watch.specs.Rule.{span_from}
@@ -85,7 +85,7 @@ ClocksCountFromTheLatestStart =
 -- charging or from topping off.
 abbrev pub NoDetourStartsAClock : Type 0
 NoDetourStartsAClock =
-    All (λ c. (new : Code) → (starts_pre c new ≡ false) × (starts_fast c new ≡ false) × (starts_top c new ≡ false))
+    AllByRecursion (λ c. (new : Code) → (starts_pre c new ≡ false) × (starts_fast c new ≡ false) × (starts_top c new ≡ false))
     (TempErr1 ∷ TempErr2 ∷ TempErr3 ∷ TempErr4 ∷ TempErr5 ∷ BattAssist1 ∷ BattAssist2 ∷ BattAssist3 ∷ TrickleCharge ∷ TopOff ∷ [])
 
 -- A battery error is a good reading that leads from another code to 7Fh. Whether one came after the latest charger
