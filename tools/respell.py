@@ -1,7 +1,7 @@
 #!/usr/bin/env python3
 """Respells the repository's own definitions, lemmas, fields and ghost fields: words in snake case, types in camel case.
 
-usage: python3 tools/respell.py [--list]     at the top of the repository
+usage: python3 tools/respell.py [--list]     once, at the top of the repository
 
 A name counts as the repository's own where a file of specs/ or proofs/ declares it, or a ghost item of src/. What the
 prover generates keeps its name: an answer or an invariant by its goal, and whatever an answer reads from `c`. Text of
@@ -19,7 +19,8 @@ DECLARED = re.compile(r"^(\s*)(?:pub |abbrev |record |data |unfoldable )*([^\s()
 GOAL = re.compile(r":\s*goal\.(\S+)")
 GHOST = re.compile(r"ghost\s+([A-Za-z_]\w*)\s*[:=]\s*\{")
 ITEM = re.compile(r"\b(?:ensures|requires)\b[^{;]*\{|\bghost\s+(?:\w+\s*)?[:=]\s*\{|\bghost\s+use\b")
-COMMENT = re.compile(r"--[^\n]*|//[^\n]*")
+STRING = r'"(?:[^"\\\n]|\\.)*"'
+COMMENT = re.compile(STRING + r"|--[^\n]*|//[^\n]*")
 SPAN = re.compile(r"`[^`\n]+`")
 
 # Lemmas that would get the name of the function that they speak of.
@@ -97,7 +98,8 @@ def turned(text, own):
 
 
 def spans(text, own):
-    return SPAN.sub(lambda match: turned(match.group(0), own), text)
+    """A comment or a page is turned in its code spans, and a string is not."""
+    return text if text.startswith('"') else SPAN.sub(lambda match: turned(match.group(0), own), text)
 
 
 def beside_comments(text, own):

@@ -27,7 +27,7 @@ pub data Row : Type 0 where
   -- a byte of the count, the value written to it, the count before, and the charge after
   writes : (byte : CountByte) (value before charge : ℕ) → Row
   -- the byte of an over-current threshold, a discharge in mA, and whether it is past
-  passes : (byte discharge : ℕ) (isPast : Bool) → Row
+  passes : (byte discharge : ℕ) (is_past : Bool) → Row
   -- the threshold byte and the duration byte of an over-current alarm, a discharge in mA, the ticks of the first and
   -- the newest reading with it, and the bit
   alarms : (byte duration discharge first newest : ℕ) (bit : Bool) → Row
@@ -72,8 +72,8 @@ Holds (counts charge count) = count_of charge ≡ count
 -- Whatever happened to the gauge: if the count before stood there, the write leaves the charge.
 Holds (writes byte value before charge) = (es : List Event) → count_of (kept es) ≡ before → kept (Written byte value ∷ es) ≡ charge
 -- The discharge, which is a current below zero, is past the threshold or is not.
-Holds (passes byte discharge isPast) =
-    (t : OverCurrent) (m : Measured) → Means byte t → m.cur ≡ neg_ℤ (pos discharge) → past t m ≡ isPast
+Holds (passes byte discharge is_past) =
+    (t : OverCurrent) (m : Measured) → Means byte t → m.cur ≡ neg_ℤ (pos discharge) → past t m ≡ is_past
 -- A new alarm that has taken two readings with the discharge, one at each tick, has the bit.
 Holds (alarms byte duration discharge first newest bit) =
     (t : OverCurrent) (m n : Measured)

@@ -4,8 +4,8 @@ ghost use Rattle.watch.specs.Histories.{TheBitTellsOfARun, ARunIsTheLongest};
 
 use crate::*;
 
-/// Whatever is watched, after every history whose ticks do not fall, the bit is one if and only if an unbroken run of past readings since the
-/// last write ends with the newest reading and spans at least the duration.
+/// Whatever is watched, after every history whose ticks do not fall, the bit is one if and only if an unbroken run of
+/// past readings since the last write ends with the newest reading and spans at least the duration.
 pub fn the_bit_tells_of_a_run<T: Threshold>()
     ensures law { TheBitTellsOfARun T.Threshold.passes }
 {}
