@@ -89,6 +89,7 @@ impl Threshold for Cold {
 pub fn hot_clock() -> Run<Hot>
     ensures threshold { result.threshold.above.0 ≡ pos 58 }
     ensures first { result.first ≡ None }
+    ensures last { result.last ≡ 0 }
 {
     Run::new(Hot { above: Celsius(58) })
 }
