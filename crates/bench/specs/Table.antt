@@ -59,11 +59,11 @@ table =
 
 -- The threshold that a byte means: the byte counts steps of 50 mA.
 abbrev pub Means : ℕ → OverCurrent → Type 0
-Means byte t = t.above.0 ≡ 50 * byte
+Means byte t = t ≡ 50 * byte
 
 -- Which readings are past a threshold.
 abbrev pub past : OverCurrent → Measured → Bool
-past t m = over_current t.above.0 m
+past t m = over_current t m
 
 -- What a row claims. It speaks of every reading that has its numbers, whatever the other numbers are.
 abbrev pub Holds : Row → Type 0

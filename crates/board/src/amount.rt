@@ -1,6 +1,6 @@
 //! The amount of a trim, checked when it is made.
 
-ghost use Rattle.std.specs.Prelude.{pos, negsuc, ◌≤ℤ◌};
+use std::marker::Model;
 
 pub mod checks;
 
@@ -8,8 +8,19 @@ pub mod checks;
 #[derive(Clone, Copy, PartialEq, Eq, Debug)]
 pub struct TrimAmount {
     milliamps: i16,
-    ghost lowest: { negsuc 199 ≤ℤ milliamps },
-    ghost highest: { milliamps ≤ℤ pos 200 },
+}
+
+// Contracts see an amount as its number.
+impl Model for TrimAmount {
+    ghost use Rattle.std.specs.Prelude.{ℤ, pos, negsuc, ◌≤ℤ◌};
+
+    ghost Value = { ℤ };
+
+    ghost view = { λ t. t.milliamps };
+
+    ghost invariant = { λ t. (negsuc 199 ≤ℤ t.milliamps) × (t.milliamps ≤ℤ pos 200) };
+
+    ghost inverse = { λ a. record { milliamps = a } };
 }
 
 /// Why an amount was refused.

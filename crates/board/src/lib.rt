@@ -2,21 +2,19 @@
 #![tactic(auto)]
 
 ghost use Rattle.std.specs.Prelude.{◌≡◌, ℕ, ◌≤◌};
-ghost use Rattle.board.specs.Meaning.{Meaning, first, taken, drive_answer, driving, plain, number_of, take_number, drive_number};
+ghost use Rattle.board.specs.Meaning.{Meaning, first, taken, drive_answer, driving, number_of, take_number, drive_number};
 
 use reading::*;
 
 pub mod amount;
+pub mod drive;
 pub mod trim;
 
 /// What a keeper asks of a board. Whoever writes a board says what it means, and shows that the
 /// four functions keep to that; everything above a board follows from its meaning alone.
+// No model beside it: the meaning is one already, and a type of meanings would have to show the ceiling's bounds of all.
 pub trait Board {
     ghost meaning: { Self → Meaning };
-
-    ghost lowest: { (b : Self) → 100 ≤ (meaning b).ceiling };
-
-    ghost highest: { (b : Self) → (meaning b).ceiling ≤ 2000 };
 
     /// The highest current that this board drives: fixed, from 100 to 2,000 mA.
     fn ceiling(&self) -> ChargeMilliamps
@@ -25,7 +23,7 @@ pub trait Board {
     /// Takes the first conversion that waits: a reading, or a fault with the blank. A fault too
     /// where nothing waits, and then nothing changes.
     fn take(&mut self) -> Result<Reading, Fault>
-        ensures answer { plain result ≡ first (meaning self.old).waiting }
+        ensures answer { result ≡ first (meaning self.old).waiting }
         ensures number { number_of result ≡ take_number (meaning self.old).waiting }
         ensures after { meaning self.new ≡ taken (meaning self.old) };
 
@@ -38,4 +36,9 @@ pub trait Board {
     /// The current that it drives.
     fn driven(&self) -> ChargeMilliamps
         ensures answer { result.0 ≡ (meaning self.now).drive };
+
+    // The ceiling lies from 100 to 2,000 mA.
+    ghost lowest: { (b : Self) → 100 ≤ (meaning b).ceiling };
+
+    ghost highest: { (b : Self) → (meaning b).ceiling ≤ 2000 };
 }

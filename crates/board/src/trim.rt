@@ -24,7 +24,7 @@ impl<B: Board> Trim<B> {
 }
 
 impl<B: Board> Board for Trim<B> {
-    ghost meaning = { λ t. over t.amount.milliamps (B.Board.meaning t.below) };
+    ghost meaning = { λ t. over t.amount (B.Board.meaning t.below) };
 
     ghost lowest = { λ t. B.Board.lowest t.below };
 

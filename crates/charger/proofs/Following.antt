@@ -8,7 +8,7 @@ use Rattle.watch.specs.Rule.{span_from, span_of}
 use Rattle.charger.specs.Chargers.{sensed, facts_of, ordered_by, taking, suspended}
 use Rattle.charger.specs.Conditions.{turned, input_begins, input_ends, over_begins, over_ends}
 use Rattle.charger.specs.Histories.{Event, took, wrote, hold, release, Follows, after, code_now, facts_at, hot_clock, input_good, over_voltage, readings, story_of, TheChargerFollowsItsHistory}
-use Rattle.charger.specs.Rules.{Facts, next}
+use Rattle.charger.specs.Rules.{next}
 use Rattle.charger.specs.Timing.{restarted, starts_pre, starts_fast, starts_top}
 use Rattle.charger.specs.declared.Charger.{Charger}
 use Rattle.charger.specs.declared.Clock.{Clock}
@@ -16,15 +16,10 @@ use Rattle.charger.specs.declared.Code.{Code}
 use Rattle.charger.specs.declared.Code.TheVariants.{Suspend}
 use Rattle.charger.specs.declared.settings.Draft.{Draft}
 
--- what the rules look at, part by part
-same_facts : {r s h i j k o p : Bool} {a b e f w x y z : ℕ} (m : Measured) → r ≡ s → h ≡ i → j ≡ k → o ≡ p → a ≡ b → e ≡ f → w ≡ x → y ≡ z → ◌≡◌ {A = Facts} (record { reset = r; held = h; input_good = j; over_voltage = o; hot_clock = a; pre_clock = e; fast_clock = w; top_clock = y; reading = m }) (record { reset = s; held = i; input_good = k; over_voltage = p; hot_clock = b; pre_clock = f; fast_clock = x; top_clock = z; reading = m })
-same_facts m q1 q2 q3 q4 q5 q6 q7 q8 = cc
-
 -- a clock that a change of code may start anew
 moved : (starts : Code → Code → Bool) (old new old2 new2 : Code) (tick : ℕ) (clock : Clock) (o : Option ℕ) → old ≡ old2 → new ≡ new2 → clock.since ≡ o → (restarted starts old new tick clock).since ≡ cond (starts old2 new2) (Some tick) o
 moved starts old new old2 new2 tick clock o p q r =
-    ap (λ x. (restarted starts x new tick clock).since) p
-    ∙ ap (λ x. (restarted starts old2 x tick clock).since) q
+    (λ i. (restarted starts (p i) (q i) tick clock).since)
     ∙ elim (starts old2 new2) as (λ b. (cond b (record { since = Some tick }) clock).since ≡ cond b (Some tick) o) [ true ↦ refl | false ↦ r ]
 
 module _ (d : Draft) (m : Measured) (es : List Event) (c : Charger) (k : Follows d es c) where
@@ -32,7 +27,7 @@ module _ (d : Draft) (m : Measured) (es : List Event) (c : Charger) (k : Follows
   input_more = ap (turned input_begins input_ends m) k.input
 
   over_more : (sensed m c).over_voltage ≡ over_voltage d (m ∷ readings es)
-  over_more = ap (λ x. turned (over_begins x) (over_ends x) m c.over_voltage) k.settings ∙ ap (turned (over_begins d) (over_ends d) m) k.over
+  over_more = λ i. turned (over_begins (k.settings i)) (over_ends (k.settings i)) m (k.over i)
 
   heat_more : (sensed m c).hot.first ≡ first_tick (run_of too_hot (m ∷ readings es))
   heat_more = ap (λ o. cond (too_hot m) (Some (unwrap_or o m.tick)) None) k.heat ∙ first_more too_hot m (readings es)
@@ -40,17 +35,11 @@ module _ (d : Draft) (m : Measured) (es : List Event) (c : Charger) (k : Follows
   hot_more : span_of (sensed m c).hot ≡ hot_clock (m ∷ readings es)
   hot_more = ap (λ o. span_from o m.tick) heat_more ∙ span_of_lem too_hot m (readings es)
 
-  elapsed : (o p : Option ℕ) → o ≡ p → span_from o m.tick ≡ span_from p m.tick
-  elapsed o p e = ap (λ x. span_from x m.tick) e
-
   facts_more : facts_of (sensed m c) m ≡ facts_at d m es (story_of d es)
-  facts_more = same_facts m k.reset k.held input_more over_more hot_more (elapsed _ _ k.pre) (elapsed _ _ k.fast) (elapsed _ _ k.top)
+  facts_more = rw (k.reset, k.held, input_more, over_more, hot_more, k.pre, k.fast, k.top) refl
 
   code_more : ordered_by m c ≡ code_now (story_of d (took m ∷ es))
-  code_more =
-      ap (λ x. next x (facts_of (sensed m c) m) c.code) k.settings
-      ∙ ap (λ f. next d f c.code) facts_more
-      ∙ ap (next d (facts_at d m es (story_of d es))) k.code
+  code_more = λ i. next (k.settings i) (facts_more i) (k.code i)
 
   more : Follows d (took m ∷ es) (taking m c)
   more = record {

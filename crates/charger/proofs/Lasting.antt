@@ -14,7 +14,7 @@ module _ (begins ends : Measured → Bool) where
   on m ms n l = record { newer = m ∷ l.newer; first = l.first; older = l.older; order = ap (λ x. m ∷ x) l.order; began = l.began; unended = (not_from_false _ n, l.unended) }
 
   pub lasting : (ms : List Measured) → lasts begins ends ms ≡ true → Lasting begins ends ms
-  lasting [] e = absurd (true≢false (sym e))
+  lasting [] e = cc
   lasting (m ∷ ms) e =
       ⊎_elim
       (λ b. record { newer = []; first = m; older = ms; order = refl; began = b; unended = tt })

@@ -3,7 +3,5 @@ mod Judging
 mod Lasting
 mod Ordered
 mod Progress
-mod Ranges
 mod Safety
 mod Starting
-mod Turning

@@ -2,9 +2,9 @@
 use Rattle.std.proofs.Common.{◌≡◌, ℕ, ◌<◌, ◌≤◌, Bool, true, false, cond, not, ltb, leb, ◌⊎◌, List, [], ◌∷◌, pos, ◌≤ℤ◌, sym, refl, ap, ◌∙◌, inl, inr, ⊎_elim, arith}
 use lib.Signed.{lt_z}
 use Rattle.std.proofs.lemmas.Int.{ints}
-use Rattle.std.proofs.lemmas.Bool.{cases_Bool, cond-true, cond-false, leb-true, leb-false, not_from_true, or_from, true≢false}
+use Rattle.std.proofs.lemmas.Bool.{cases_Bool, cond-true, cond-false, eq-eqb, leb-true, leb-false, not_from_true, or_from, true≢false}
 use Rattle.reading.specs.declared.Measured.{Measured}
-use Rattle.charger.specs.Codes.{same}
+use Rattle.charger.specs.Codes.{byte_of, same}
 use Rattle.charger.specs.Histories.{Event, took, code_now, facts_at, hold_out, over_voltage, readings, reset_bit, story_of}
 use Rattle.charger.specs.Laws.{MayCharge, charges, ItChargesWhereItMay, NoCodeOutlastsItsClock, NoDetourStartsAClock, NothingComesBeforeItsClock}
 use Rattle.charger.specs.Rules.{Facts, above, among, barred, nearly_full, outside, heat_rules, range_rules, first_fit, next, pre_limit, fast_limit, top_limit, hot_limit}
@@ -13,12 +13,12 @@ use Rattle.charger.specs.declared.Code.TheVariants.{Suspend, TrickleCharge, PreC
 use Rattle.charger.specs.declared.settings.Draft.{Draft}
 use Rattle.charger.proofs.Following.{follows}
 use Rattle.charger.proofs.Lasting.{lasting, lasted}
-use Rattle.charger.proofs.Ordered.{when_reset, when_barred, when_outside, when_inside}
+use Rattle.charger.proofs.Ordered.{each, when_reset, when_barred, when_outside, when_inside}
 use Rattle.charger.proofs.Safety.{free, no_charge}
 
 -- a code is not another that the numbers tell from it
-clash : {P : Type 0} (x y : Code) → same x y ≡ false → x ≡ y → same y y ≡ true → P
-clash x y n e s = absurd (true≢false (sym s ∙ ap (λ z. same z y) (sym e) ∙ n))
+clash : {P : Type 0} (x y : Code) → same x y ≡ false → x ≡ y → P
+clash x y n e = absurd (true≢false (sym (eq-eqb _ _ (ap byte_of e)) ∙ n))
 
 module _ (d : Draft) (f : Facts) where
   -- the three ways on from a code that is no battery error
@@ -42,67 +42,41 @@ module _ (d : Draft) (f : Facts) where
       (cases_Bool (leb limit clock))
 
   pre_time : (c : Code) → among (TrickleCharge ∷ PreCharge ∷ []) c ≡ true → charges (next d f c) ≡ true → f.pre_clock < pre_limit
-  pre_time Suspend a h = absurd (true≢false (sym a))
-  pre_time TrickleCharge a h = clock_time TrickleCharge pre_limit f.pre_clock _ (λ e. let z : ◌≡◌ {A = ℕ} 0 1 = cc in omega arith) refl h
-  pre_time PreCharge a h = clock_time PreCharge pre_limit f.pre_clock _ (λ e. let z : ◌≡◌ {A = ℕ} 0 1 = cc in omega arith) refl h
-  pre_time FastCharge a h = absurd (true≢false (sym a))
-  pre_time BatDet a h = absurd (true≢false (sym a))
-  pre_time TopOff a h = absurd (true≢false (sym a))
-  pre_time Done a h = absurd (true≢false (sym a))
-  pre_time TempErr1 a h = absurd (true≢false (sym a))
-  pre_time TempErr2 a h = absurd (true≢false (sym a))
-  pre_time TempErr3 a h = absurd (true≢false (sym a))
-  pre_time TempErr4 a h = absurd (true≢false (sym a))
-  pre_time TempErr5 a h = absurd (true≢false (sym a))
-  pre_time BattAssist1 a h = absurd (true≢false (sym a))
-  pre_time BattAssist2 a h = absurd (true≢false (sym a))
-  pre_time BattAssist3 a h = absurd (true≢false (sym a))
-  pre_time BattError a h = absurd (true≢false (sym a))
+  pre_time c a =
+      each (λ x. charges (next d f x) ≡ true → f.pre_clock < pre_limit) (TrickleCharge ∷ PreCharge ∷ []) c a
+      (clock_time TrickleCharge pre_limit f.pre_clock _ (λ e. cc) refl, (clock_time PreCharge pre_limit f.pre_clock _ (λ e. cc) refl, tt))
 
   fast_time : charges (next d f FastCharge) ≡ true → f.fast_clock < fast_limit
-  fast_time h = clock_time FastCharge fast_limit f.fast_clock _ (λ e. let z : ◌≡◌ {A = ℕ} 0 1 = cc in omega arith) refl h
+  fast_time h = clock_time FastCharge fast_limit f.fast_clock _ (λ e. cc) refl h
 
   -- heat in a temperature code that leads back to another
-  heat_time : (c back : Code) → (c ≡ BattError → ⊥) → same Suspend c ≡ false → same back c ≡ false → same BattError c ≡ false → same c c ≡ true → first_fit (range_rules d f) c ≡ back → first_fit (heat_rules true (leb hot_limit f.hot_clock)) c ≡ cond (leb hot_limit f.hot_clock) BattError c → next d f c ≡ c → f.hot_clock < hot_limit
-  heat_time c back n s b e self inside hot h =
+  heat_time : (c back : Code) → (c ≡ BattError → ⊥) → (Suspend ≡ c → ⊥) → (back ≡ c → ⊥) → first_fit (range_rules d f) c ≡ back → first_fit (heat_rules true (leb hot_limit f.hot_clock)) c ≡ cond (leb hot_limit f.hot_clock) BattError c → next d f c ≡ c → f.hot_clock < hot_limit
+  heat_time c back n s b inside hot h =
       ways c n
-      (λ w. clash Suspend c s (sym w ∙ h) self)
+      (λ w. absurd (s (sym w ∙ h)))
       (λ w. ⊎_elim
-      (λ y. clash BattError c e (sym (w ∙ hot ∙ cond-true _ _ _ y) ∙ h) self)
+      (λ y. absurd (n (sym (sym (w ∙ hot ∙ cond-true _ _ _ y) ∙ h))))
       (leb-false hot_limit f.hot_clock)
       (cases_Bool (leb hot_limit f.hot_clock)))
-      (λ w. clash back c b (sym (w ∙ inside) ∙ h) self)
+      (λ w. absurd (b (sym (w ∙ inside) ∙ h)))
 
   hot_time : (c : Code) → among (TempErr1 ∷ TempErr2 ∷ TempErr5 ∷ []) c ≡ true → next d f c ≡ c → f.hot_clock < hot_limit
-  hot_time Suspend a h = absurd (true≢false (sym a))
-  hot_time TrickleCharge a h = absurd (true≢false (sym a))
-  hot_time PreCharge a h = absurd (true≢false (sym a))
-  hot_time FastCharge a h = absurd (true≢false (sym a))
-  hot_time BatDet a h = absurd (true≢false (sym a))
-  hot_time TopOff a h = absurd (true≢false (sym a))
-  hot_time Done a h = absurd (true≢false (sym a))
-  hot_time TempErr1 a h = heat_time TempErr1 PreCharge (λ e. let z : ◌≡◌ {A = ℕ} 0 1 = cc in omega arith) refl refl refl refl refl refl h
-  hot_time TempErr2 a h = heat_time TempErr2 FastCharge (λ e. let z : ◌≡◌ {A = ℕ} 0 1 = cc in omega arith) refl refl refl refl refl refl h
-  hot_time TempErr3 a h = absurd (true≢false (sym a))
-  hot_time TempErr4 a h = absurd (true≢false (sym a))
-  hot_time TempErr5 a h = heat_time TempErr5 TrickleCharge (λ e. let z : ◌≡◌ {A = ℕ} 0 1 = cc in omega arith) refl refl refl refl refl refl h
-  hot_time BattAssist1 a h = absurd (true≢false (sym a))
-  hot_time BattAssist2 a h = absurd (true≢false (sym a))
-  hot_time BattAssist3 a h = absurd (true≢false (sym a))
-  hot_time BattError a h = absurd (true≢false (sym a))
+  hot_time c a =
+      each (λ x. next d f x ≡ x → f.hot_clock < hot_limit) (TempErr1 ∷ TempErr2 ∷ TempErr5 ∷ []) c a
+      (heat_time TempErr1 PreCharge (λ e. cc) (λ e. cc) (λ e. cc) refl refl, (heat_time TempErr2 FastCharge (λ e. cc) (λ e. cc) (λ e. cc) refl refl, (heat_time TempErr5 TrickleCharge (λ e. cc) (λ e. cc) (λ e. cc) refl refl, tt)))
 
   -- topping off ends once its clock has run out, whatever else the reading says
   over : (a b t : Bool) → t ≡ true → same (cond a BattAssist2 (cond b FastCharge (cond t Done TopOff))) TopOff ≡ false
   over true b t e = refl
   over false true t e = refl
   over false false true e = refl
-  over false false false e = absurd (true≢false (sym e))
+  over false false false e = cc
 
   top_time : next d f TopOff ≡ TopOff → f.top_clock < top_limit
   top_time h =
       let r = free d f TopOff (ap charges h) in
-      let is = sym (when_inside d f TopOff r.reset (λ e. let z : ◌≡◌ {A = ℕ} 0 1 = cc in omega arith) r.bar r.range) ∙ h in
-      ⊎_elim (λ y. clash _ TopOff (over (above 60 f.reading) (not (nearly_full d f.reading)) _ y) is refl) (leb-false top_limit f.top_clock) (cases_Bool (leb top_limit f.top_clock))
+      let is = sym (when_inside d f TopOff r.reset (λ e. cc) r.bar r.range) ∙ h in
+      ⊎_elim (λ y. clash _ TopOff (over (above 60 f.reading) (not (nearly_full d f.reading)) _ y) is) (leb-false top_limit f.top_clock) (cases_Bool (leb top_limit f.top_clock))
 
   -- a code with one or two ways on is no battery error if none of them is
   one : (a : Bool) (x y : Code) → same x BattError ≡ false → same y BattError ≡ false → same (cond a x y) BattError ≡ false
@@ -114,96 +88,72 @@ module _ (d : Draft) (f : Facts) where
 
   -- a way to the battery error leads through heat or through the charge
   error_way : (c : Code) → (c ≡ BattError → ⊥) → next d f c ≡ BattError → (first_fit (heat_rules true (leb hot_limit f.hot_clock)) c ≡ BattError) ⊎ (first_fit (range_rules d f) c ≡ BattError)
-  error_way c n h = ways c n (λ w. clash Suspend BattError refl (sym w ∙ h) refl) (λ w. inl (sym w ∙ h)) (λ w. inr (sym w ∙ h))
+  error_way c n h = ways c n (λ w. cc) (λ w. inl (sym w ∙ h)) (λ w. inr (sym w ∙ h))
 
   met : (limit clock : ℕ) (rest : Code) → same rest BattError ≡ false → cond (leb limit clock) BattError rest ≡ BattError → limit ≤ clock
   met limit clock rest n h =
-      ⊎_elim (leb-true limit clock) (λ x. clash rest BattError n (sym (cond-false _ _ _ x) ∙ h) refl) (cases_Bool (leb limit clock))
+      ⊎_elim (leb-true limit clock) (λ x. clash rest BattError n (sym (cond-false _ _ _ x) ∙ h)) (cases_Bool (leb limit clock))
 
   clock_over : (c : Code) (limit clock : ℕ) (rest : Code) → (c ≡ BattError → ⊥) → same (first_fit (heat_rules true (leb hot_limit f.hot_clock)) c) BattError ≡ false → first_fit (range_rules d f) c ≡ cond (leb limit clock) BattError rest → same rest BattError ≡ false → next d f c ≡ BattError → limit ≤ clock
   clock_over c limit clock rest n cold is other h =
-      ⊎_elim (λ e. clash _ BattError cold e refl) (λ e. met limit clock rest other (sym is ∙ e)) (error_way c n h)
+      ⊎_elim (λ e. clash _ BattError cold e) (λ e. met limit clock rest other (sym is ∙ e)) (error_way c n h)
 
   pre_over : (c : Code) → among (TrickleCharge ∷ PreCharge ∷ []) c ≡ true → next d f c ≡ BattError → pre_limit ≤ f.pre_clock
-  pre_over Suspend a h = absurd (true≢false (sym a))
-  pre_over TrickleCharge a h = clock_over TrickleCharge pre_limit f.pre_clock _ (λ e. let z : ◌≡◌ {A = ℕ} 0 1 = cc in omega arith) refl refl (one (leb d.vpre_lo.0 f.reading.vbat) PreCharge TrickleCharge refl refl) h
-  pre_over PreCharge a h = clock_over PreCharge pre_limit f.pre_clock _ (λ e. let z : ◌≡◌ {A = ℕ} 0 1 = cc in omega arith) refl refl (one (leb d.vpre_hi.0 f.reading.vbat) FastCharge PreCharge refl refl) h
-  pre_over FastCharge a h = absurd (true≢false (sym a))
-  pre_over BatDet a h = absurd (true≢false (sym a))
-  pre_over TopOff a h = absurd (true≢false (sym a))
-  pre_over Done a h = absurd (true≢false (sym a))
-  pre_over TempErr1 a h = absurd (true≢false (sym a))
-  pre_over TempErr2 a h = absurd (true≢false (sym a))
-  pre_over TempErr3 a h = absurd (true≢false (sym a))
-  pre_over TempErr4 a h = absurd (true≢false (sym a))
-  pre_over TempErr5 a h = absurd (true≢false (sym a))
-  pre_over BattAssist1 a h = absurd (true≢false (sym a))
-  pre_over BattAssist2 a h = absurd (true≢false (sym a))
-  pre_over BattAssist3 a h = absurd (true≢false (sym a))
-  pre_over BattError a h = absurd (true≢false (sym a))
+  pre_over c a =
+      each (λ x. next d f x ≡ BattError → pre_limit ≤ f.pre_clock) (TrickleCharge ∷ PreCharge ∷ []) c a (
+        clock_over TrickleCharge pre_limit f.pre_clock _ (λ e. cc) refl refl (one (leb d.vpre_lo.0 f.reading.vbat) PreCharge TrickleCharge refl refl),
+        (clock_over PreCharge pre_limit f.pre_clock _ (λ e. cc) refl refl (one (leb d.vpre_hi.0 f.reading.vbat) FastCharge PreCharge refl refl), tt),
+      )
 
   fast_over : next d f FastCharge ≡ BattError → fast_limit ≤ f.fast_clock
-  fast_over h = clock_over FastCharge fast_limit f.fast_clock _ (λ e. let z : ◌≡◌ {A = ℕ} 0 1 = cc in omega arith) refl refl (two (above 60 f.reading) (nearly_full d f.reading) BattAssist1 TopOff FastCharge refl refl refl) h
+  fast_over h = clock_over FastCharge fast_limit f.fast_clock _ (λ e. cc) refl refl (two (above 60 f.reading) (nearly_full d f.reading) BattAssist1 TopOff FastCharge refl refl refl) h
 
   heat_over : (c : Code) → (c ≡ BattError → ⊥) → same (first_fit (range_rules d f) c) BattError ≡ false → first_fit (heat_rules true (leb hot_limit f.hot_clock)) c ≡ cond (leb hot_limit f.hot_clock) BattError c → same c BattError ≡ false → next d f c ≡ BattError → hot_limit ≤ f.hot_clock
   heat_over c n back is other h =
-      ⊎_elim (λ e. met hot_limit f.hot_clock c other (sym is ∙ e)) (λ e. clash _ BattError back e refl) (error_way c n h)
+      ⊎_elim (λ e. met hot_limit f.hot_clock c other (sym is ∙ e)) (λ e. clash _ BattError back e) (error_way c n h)
 
   hot_over : (c : Code) → among (TempErr1 ∷ TempErr2 ∷ TempErr5 ∷ []) c ≡ true → next d f c ≡ BattError → hot_limit ≤ f.hot_clock
-  hot_over Suspend a h = absurd (true≢false (sym a))
-  hot_over TrickleCharge a h = absurd (true≢false (sym a))
-  hot_over PreCharge a h = absurd (true≢false (sym a))
-  hot_over FastCharge a h = absurd (true≢false (sym a))
-  hot_over BatDet a h = absurd (true≢false (sym a))
-  hot_over TopOff a h = absurd (true≢false (sym a))
-  hot_over Done a h = absurd (true≢false (sym a))
-  hot_over TempErr1 a h = heat_over TempErr1 (λ e. let z : ◌≡◌ {A = ℕ} 0 1 = cc in omega arith) refl refl refl h
-  hot_over TempErr2 a h = heat_over TempErr2 (λ e. let z : ◌≡◌ {A = ℕ} 0 1 = cc in omega arith) refl refl refl h
-  hot_over TempErr3 a h = absurd (true≢false (sym a))
-  hot_over TempErr4 a h = absurd (true≢false (sym a))
-  hot_over TempErr5 a h = heat_over TempErr5 (λ e. let z : ◌≡◌ {A = ℕ} 0 1 = cc in omega arith) refl refl refl h
-  hot_over BattAssist1 a h = absurd (true≢false (sym a))
-  hot_over BattAssist2 a h = absurd (true≢false (sym a))
-  hot_over BattAssist3 a h = absurd (true≢false (sym a))
-  hot_over BattError a h = absurd (true≢false (sym a))
+  hot_over c a =
+      each (λ x. next d f x ≡ BattError → hot_limit ≤ f.hot_clock) (TempErr1 ∷ TempErr2 ∷ TempErr5 ∷ []) c a
+      (heat_over TempErr1 (λ e. cc) refl refl refl, (heat_over TempErr2 (λ e. cc) refl refl refl, (heat_over TempErr5 (λ e. cc) refl refl refl, tt)))
 
   -- the codes without a clock
   never : (c : Code) → among (TrickleCharge ∷ PreCharge ∷ FastCharge ∷ TempErr1 ∷ TempErr2 ∷ TempErr5 ∷ BattError ∷ []) c ≡ false → (same (first_fit (heat_rules true (leb hot_limit f.hot_clock)) c) BattError ≡ false) × (same (first_fit (range_rules d f) c) BattError ≡ false)
   never Suspend a = (refl, refl)
-  never TrickleCharge a = absurd (true≢false a)
-  never PreCharge a = absurd (true≢false a)
-  never FastCharge a = absurd (true≢false a)
+  never TrickleCharge a = cc
+  never PreCharge a = cc
+  never FastCharge a = cc
   never BatDet a = (refl, two (ltb f.reading.vbat d.vpre_lo.0) (ltb f.reading.vbat d.vpre_hi.0) TrickleCharge PreCharge FastCharge refl refl refl)
   never TopOff a = (refl, two (above 60 f.reading) (not (nearly_full d f.reading)) BattAssist2 FastCharge _ refl refl (one (leb top_limit f.top_clock) Done TopOff refl refl))
   never Done a = (refl, two (above 60 f.reading) (ltb f.reading.vbat d.vbat_mnt.0) BattAssist3 FastCharge Done refl refl refl)
-  never TempErr1 a = absurd (true≢false a)
-  never TempErr2 a = absurd (true≢false a)
+  never TempErr1 a = cc
+  never TempErr2 a = cc
   never TempErr3 a = (refl, refl)
   never TempErr4 a = (refl, refl)
-  never TempErr5 a = absurd (true≢false a)
+  never TempErr5 a = cc
   never BattAssist1 a = (refl, one (not (above 20 f.reading)) FastCharge BattAssist1 refl refl)
   never BattAssist2 a = (refl, one (not (above 20 f.reading)) TopOff BattAssist2 refl refl)
   never BattAssist3 a = (refl, one (not (above 20 f.reading)) Done BattAssist3 refl refl)
-  never BattError a = absurd (true≢false a)
+  never BattError a = cc
 
   no_clock : (c : Code) → among (TrickleCharge ∷ PreCharge ∷ FastCharge ∷ TempErr1 ∷ TempErr2 ∷ TempErr5 ∷ BattError ∷ []) c ≡ false → next d f c ≡ BattError → ⊥
   no_clock c a h =
       let no = never c a in
-      ⊎_elim (λ e. clash _ BattError no.0 e refl) (λ e. clash _ BattError no.1 e refl)
+      ⊎_elim (λ e. clash _ BattError no.0 e) (λ e. clash _ BattError no.1 e)
       (error_way c (λ e. true≢false (ap (among (TrickleCharge ∷ PreCharge ∷ FastCharge ∷ TempErr1 ∷ TempErr2 ∷ TempErr5 ∷ BattError ∷ [])) (sym e) ∙ a)) h)
 
   -- the full battery is told from topping off by its clock alone
   done : (a b t : Bool) → cond a BattAssist2 (cond b FastCharge (cond t Done TopOff)) ≡ Done → t ≡ true
-  done true b t e = clash BattAssist2 Done refl e refl
-  done false true t e = clash FastCharge Done refl e refl
+  done true b t e = cc
+  done false true t e = cc
   done false false true e = refl
-  done false false false e = clash TopOff Done refl e refl
+  done false false false e = cc
 
   top_over : next d f TopOff ≡ Done → top_limit ≤ f.top_clock
   top_over h =
-      ways TopOff (λ e. let z : ◌≡◌ {A = ℕ} 0 1 = cc in omega arith)
-      (λ w. clash Suspend Done refl (sym w ∙ h) refl)
-      (λ w. clash TempErr2 Done refl (sym w ∙ h) refl)
+      ways TopOff (λ e. cc)
+      (λ w. cc)
+      (λ w. cc)
       (λ w. leb-true top_limit f.top_clock (done (above 60 f.reading) (not (nearly_full d f.reading)) _ (sym w ∙ h)))
 
 pub in_time : NoCodeOutlastsItsClock
@@ -256,6 +206,6 @@ begins false false = refl
 
 pub starts : ItChargesWhereItMay
 starts d es m n s r h a b =
-    let first = led d es m a r h Suspend (λ e. let z : ◌≡◌ {A = ℕ} 0 1 = cc in omega arith) (sym (follows d es).code ∙ s) in
-    let second = led d (took m ∷ es) n b r h BatDet (λ e. let z : ◌≡◌ {A = ℕ} 0 1 = cc in omega arith) first in
+    let first = led d es m a r h Suspend (λ e. cc) (sym (follows d es).code ∙ s) in
+    let second = led d (took m ∷ es) n b r h BatDet (λ e. cc) first in
     ap charges ((follows d (took n ∷ took m ∷ es)).code ∙ second) ∙ begins (ltb n.vbat d.vpre_lo.0) (ltb n.vbat d.vpre_hi.0)

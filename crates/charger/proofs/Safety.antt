@@ -1,7 +1,8 @@
 -- A battery error waits for a reset, and a current is driven only where it is safe.
 use Rattle.std.proofs.Common.{◌≡◌, ℕ, ◌<◌, min, Bool, true, false, cond, not, ◌&&◌, ◌||◌, T, leb, ◌⊎◌, List, [], ◌∷◌, pos, ◌≤ℤ◌, sym, refl, ap, ◌∙◌, subst, inl, inr, ⊎_elim, arith}
 use lib.Signed.{lt_z, lt_z_no}
-use Rattle.std.proofs.lemmas.Bool.{both_ways, cases_Bool, cond-true, cond-false, not-false, not_from_false, or_parts, or_right, true≢false}
+use Rattle.std.proofs.Math.Bool.{and-true, or-false}
+use Rattle.std.proofs.lemmas.Bool.{both_ways, cases_Bool, cond-true, not-false, not_from_false, or_parts, or_right, true≢false}
 use Rattle.reading.specs.declared.Measured.{Measured}
 use Rattle.charger.specs.Chargers.{suspended}
 use Rattle.charger.specs.Codes.{asked, same}
@@ -58,10 +59,10 @@ charges_no_error : (c : Code) → charges c ≡ true → same c BattError ≡ fa
 charges_no_error c h = ⊎_elim (λ e. absurd (true≢false (sym h ∙ ap charges e))) (λ n. n) (error_or_not c)
 
 suspended_off : (c : Code) → charges (suspended c) ≡ false
-suspended_off c = ⊎_elim (λ e. ap (λ x. charges (suspended x)) e) (λ n. ap charges (cond-false _ c Suspend n)) (error_or_not c)
+suspended_off c = ⊎_elim (λ e. rw e refl) (λ n. rw n refl) (error_or_not c)
 
 suspended_same : (c : Code) → same (suspended c) BattError ≡ same c BattError
-suspended_same c = ⊎_elim (λ e. ap (λ x. same (suspended x) BattError) e ∙ sym (ap (λ x. same x BattError) e)) (λ n. ap (λ x. same x BattError) (cond-false _ c Suspend n) ∙ sym n) (error_or_not c)
+suspended_same c = ⊎_elim (λ e. rw e refl) (λ n. rw n refl) (error_or_not c)
 
 -- what a reading says that led to a charging code
 pub record Free (f : Facts) : Type 0 where
@@ -91,21 +92,17 @@ module _ (d : Draft) (f : Facts) (c : Code) (h : charges (next d f c) ≡ true) 
 
 -- while the reset bit is one, the charger is suspended
 reset_suspends : (d : Draft) (es : List Event) → reset_bit es ≡ true → code_now (story_of d es) ≡ Suspend
-reset_suspends d [] r = absurd (true≢false (sym r))
+reset_suspends d [] r = cc
 reset_suspends d (took m ∷ es) r = when_reset d (facts_at d m es (story_of d es)) (code_now (story_of d es)) r
 reset_suspends d (wrote b ∷ es) r = cond-true _ _ _ r
 reset_suspends d (hold ∷ es) r = ap suspended (reset_suspends d es r)
 reset_suspends d (release ∷ es) r = reset_suspends d es r
 
 error_unreset : (d : Draft) (es : List Event) → code_now (story_of d es) ≡ BattError → reset_bit es ≡ false
-error_unreset d es e = ⊎_elim (λ r. let z : ◌≡◌ {A = ℕ} 0 1 = cc (e, reset_suspends d es r) in absurd (omega arith)) (λ r. r) (cases_Bool (reset_bit es))
+error_unreset d es e = ⊎_elim (λ r. cc (e, reset_suspends d es r)) (λ r. r) (cases_Bool (reset_bit es))
 
 error_stays : (d : Draft) (m : Measured) (es : List Event) → code_now (story_of d es) ≡ BattError → code_now (story_of d (took m ∷ es)) ≡ BattError
 error_stays d m es e = when_error d (facts_at d m es (story_of d es)) (code_now (story_of d es)) (error_unreset d es e) e
-
-plain : (x : Bool) → ((x && true) || false) ≡ x
-plain true = refl
-plain false = refl
 
 erred_is : (d : Draft) (es : List Event) → erred (story_of d es) ≡ same (code_now (story_of d es)) BattError
 erred_is d [] = refl
@@ -114,7 +111,7 @@ erred_is d (took m ∷ es) =
     let new = code_now (story_of d (took m ∷ es)) in
     ⊎_elim
     (λ e. or_right _ _ (erred_is d es ∙ ap (λ x. same x BattError) e) ∙ sym (ap (λ x. same x BattError) (error_stays d m es e)))
-    (λ n. ap (λ x. (same new BattError && not x) || erred (story_of d es)) n ∙ ap (λ x. (same new BattError && true) || x) (erred_is d es ∙ n) ∙ plain (same new BattError))
+    (λ n. ap (λ x. (same new BattError && not x) || erred (story_of d es)) n ∙ ap (λ x. (same new BattError && true) || x) (erred_is d es ∙ n) ∙ or-false _ ∙ and-true _)
     (error_or_not old)
 erred_is d (wrote b ∷ es) = elim b as (λ x. cond x false (erred (story_of d es)) ≡ same (cond x Suspend (code_now (story_of d es))) BattError) [ true ↦ refl | false ↦ erred_is d es ]
 erred_is d (hold ∷ es) = erred_is d es ∙ sym (suspended_same (code_now (story_of d es)))
@@ -165,9 +162,9 @@ safe_reading d m es h =
     }
 
 safe : (d : Draft) (es : List Event) → charges (code_now (story_of d es)) ≡ true → Safe d es (code_now (story_of d es))
-safe d [] h = absurd (true≢false (sym h))
+safe d [] h = cc
 safe d (took m ∷ es) h = safe_reading d m es h
-safe d (wrote true ∷ es) h = absurd (true≢false (sym h))
+safe d (wrote true ∷ es) h = cc
 safe d (wrote false ∷ es) h =
     let s = safe d es h in
     record { charging = h; newest = s.newest; older = s.older; taken = s.taken; input = s.input; no_over_voltage = s.no_over_voltage; warm = s.warm; cool = s.cool; no_hold = s.no_hold; no_reset = refl; no_error = s.no_error }

@@ -1,5 +1,5 @@
 -- A clock counts from a tick exactly where it was started there, and nowhere later.
-use Rattle.std.proofs.Common.{◌≡◌, ℕ, Bool, true, false, List, [], ◌∷◌, ◌++◌, Some, None, Option, sym, refl, ap, ◌∙◌, ⊎_elim, arith}
+use Rattle.std.proofs.Common.{◌≡◌, ℕ, Bool, true, false, List, [], ◌∷◌, ◌++◌, Some, Option, sym, refl, ap, ◌∙◌, ⊎_elim}
 use Rattle.std.proofs.lemmas.Bool.{cases_Bool, cond-true, cond-false}
 use Rattle.reading.specs.declared.Measured.{Measured}
 use Rattle.charger.specs.Histories.{Event, took, wrote, hold, release, Moment, code_now, left_by, left_at}
@@ -7,12 +7,6 @@ use Rattle.charger.specs.Laws.{NoStart, Started, CountsFrom, starts_at, ClocksCo
 use Rattle.charger.specs.declared.Clock.{Clock}
 use Rattle.charger.specs.declared.Code.{Code}
 use Rattle.charger.proofs.Following.{follows}
-
-no_some : {P : Type 0} (t : ℕ) → None ≡ Some t → P
-no_some t e = let z : ◌≡◌ {A = ℕ} 0 1 = cc in absurd (omega arith)
-
-same_some : (x y : ℕ) → Some x ≡ Some y → x ≡ y
-same_some x y e = cc
 
 module _ (starts : Code → Code → Bool) where
   -- a moment that starts no clock leaves it
@@ -39,7 +33,7 @@ module _ (starts : Code → Code → Bool) where
   by : (e : Event) (new : Code) (story : List Moment) (t : ℕ) → left_by starts e (code_now story) new (left_at starts story) ≡ Some t → (left_at starts story ≡ Some t → Started starts story t) → Started starts (record { event = e; code = new } ∷ story) t
   by (took m) new story t h rest =
       ⊎_elim
-      (λ y. record { newer = []; reading = m; code = new; older = story; order = refl; left = y; at = same_some _ t (sym (cond-true _ _ _ y) ∙ h); latest = tt })
+      (λ y. record { newer = []; reading = m; code = new; older = story; order = refl; left = y; at = let here = sym (cond-true _ _ _ y) ∙ h in cc; latest = tt })
       (λ n. on _ story t n (rest (sym (cond-false _ _ _ n) ∙ h)))
       (cases_Bool (starts (code_now story) new))
   by (wrote b) new story t h rest = on _ story t refl (rest h)
@@ -47,7 +41,7 @@ module _ (starts : Code → Code → Bool) where
   by release new story t h rest = on _ story t refl (rest h)
 
   told : (story : List Moment) (t : ℕ) → left_at starts story ≡ Some t → Started starts story t
-  told [] t h = no_some t h
+  told [] t h = cc
   told (m ∷ ms) t h = by m.event m.code ms t h (told ms t)
 
   since : (newer older : List Moment) (m : Measured) (new : Code) → starts (code_now older) new ≡ true → NoStart starts newer (record { event = took m; code = new } ∷ older) → left_at starts (newer ++ (record { event = took m; code = new } ∷ older)) ≡ Some m.tick

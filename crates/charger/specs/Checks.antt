@@ -1,10 +1,9 @@
 -- The check of a draft.
-use Rattle.std.specs.Prelude.{◌≡◌, ℕ, Bool, true, false, cond, ◌&&◌, List, [], ◌∷◌, ◌++◌, map, pos, Some, None, Ok, Err, Option, Result, int_le, nat_le, nat_lt}
+use Rattle.std.specs.Prelude.{◌≡◌, ℕ, Bool, true, false, cond, not, ◌&&◌, List, [], ◌∷◌, ◌++◌, map, pos, Some, None, Ok, Err, Option, Result, int_le, nat_le, nat_lt, find}
 use Rattle.std.specs.List.{AllByRecursion}
 use Rattle.charger.specs.declared.settings.Draft.{Draft}
 use Rattle.charger.specs.declared.settings.Setting.{Setting}
 use Rattle.charger.specs.declared.settings.Setting.TheVariants.{VpreLo, VpreHi, Itri, Ipre, Ifst, IfstTerm, VbatOvp, VbatChg, VbatMnt}
-use Rattle.charger.specs.declared.settings.Settings.{Settings}
 use Rattle.charger.specs.declared.settings.SettingsFault.{SettingsFault}
 use Rattle.charger.specs.declared.settings.SettingsFault.TheVariants.{OutOfRange, OutOfOrder}
 
@@ -29,8 +28,7 @@ settings = VpreLo ∷ VpreHi ∷ Itri ∷ Ipre ∷ Ifst ∷ IfstTerm ∷ VbatOvp
 
 -- The first setting out of its range.
 abbrev pub first_bad : Draft → List Setting → Option Setting
-first_bad d [] = None
-first_bad d (s ∷ ss) = cond (in_range s d) (first_bad d ss) (Some s)
+first_bad d ss = find (λ s. not (in_range s d)) ss
 
 abbrev pub in_order : Draft → Bool
 in_order d = nat_le d.vpre_lo.0 d.vpre_hi.0 && nat_lt d.vbat_mnt.0 d.vbat_chg.0
@@ -80,11 +78,6 @@ pub record Judged (d : Draft) : Type 0 where
 
 abbrev pub ACheckTellsWhatIsWrong : Type 0
 ACheckTellsWhatIsWrong = (d : Draft) → Judged d
-
--- The answer to a check, with checked settings as the draft that they were.
-abbrev pub answered : Result Settings SettingsFault → Result Draft SettingsFault
-answered (Ok s) = Ok s.draft
-answered (Err f) = Err f
 
 abbrev pub fault_number : SettingsFault → ℕ
 fault_number (OutOfRange s) = 10

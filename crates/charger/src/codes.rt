@@ -7,14 +7,16 @@ use crate::settings::*;
 use crate::*;
 use reading::*;
 
-impl Code {
-    /// The number that register CHG_STATE shows.
-    pub fn byte(self) -> u8
-        ensures answer { result ≡ byte_of self }
-    {
-        self as u8
-    }
+/// The number that register CHG_STATE shows.
+impl From<Code> for u8 {
+    ghost from_gives = { λ c n. n ≡ byte_of c };
 
+    fn from(code: Code) -> u8 {
+        code as u8
+    }
+}
+
+impl Code {
     /// The current that this code asks for.
     fn current(self, settings: &Draft) -> ChargeMilliamps
         ensures answer { result.0 ≡ asked settings.now self }
@@ -33,7 +35,6 @@ impl Charger {
     pub fn drive(&self, ceiling: ChargeMilliamps) -> ChargeMilliamps
         ensures answer { result.0 ≡ min (asked self.now.settings self.now.code) ceiling.0 }
     {
-        let current = self.code.current(&self.settings);
-        ChargeMilliamps(current.0.min(ceiling.0))
+        self.code.current(&self.settings).min(ceiling)
     }
 }

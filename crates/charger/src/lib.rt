@@ -50,14 +50,14 @@ pub enum Code {
 }
 
 /// Counts ticks from a reading on.
-#[derive(Clone, Copy, PartialEq, Eq, Debug)]
+#[derive(Clone, Copy, PartialEq, Eq, Default, Debug)]
 pub struct Clock {
     /// The tick of the reading that started it; `None` where none did yet.
     since: Option<u64>,
 }
 
 /// How long the charger may take for what it does.
-#[derive(Clone, Copy, PartialEq, Eq, Debug)]
+#[derive(Clone, Copy, PartialEq, Eq, Default, Debug)]
 pub struct Clocks {
     /// For trickle and pre-charging together.
     pre: Clock,

@@ -2,7 +2,6 @@
 
 ghost use Rattle.std.specs.Prelude.{◌≡◌, true, nat_le};
 ghost use Rattle.reading.specs.declared.Measured.{Measured};
-ghost use Rattle.reading.specs.Limits.{measured};
 ghost use Rattle.watch.specs.Rule.{span_of};
 ghost use Rattle.charger.specs.Chargers.{facts_of, led};
 ghost use Rattle.charger.specs.Rules.{barred, outside, nearly_full, above, heat_rules, hot_limit, range_rules, rules};
@@ -25,7 +24,7 @@ const TOP_LIMIT: u64 = 60_000;
 impl Charger {
     /// Goes to the code that the rules order for a reading.
     pub(crate) fn turn(&mut self, reading: &Reading)
-        ensures after { self.new ≡ led (rules self.old.settings (facts_of self.old (measured reading.now))) self.old }
+        ensures after { self.new ≡ led (rules self.old.settings (facts_of self.old reading.now)) self.old }
     {
         match (self.code, reading) {
             _ if self.reset => self.code = Code::Suspend,
@@ -64,7 +63,7 @@ impl Charger {
 
     /// Where nothing stands in the way of charging.
     fn charge(&mut self, reading: &Reading)
-        ensures after { self.new ≡ led (range_rules self.old.settings (facts_of self.old (measured reading.now))) self.old }
+        ensures after { self.new ≡ led (range_rules self.old.settings (facts_of self.old reading.now)) self.old }
     {
         let settings = self.settings;
         match (self.code, reading) {
@@ -103,25 +102,24 @@ impl Charger {
 
     /// Whether the battery is nearly full.
     fn is_nearly_full(&self, reading: &Reading) -> bool
-        ensures answer { result ≡ nearly_full self.now.settings (measured reading.now) }
+        ensures answer { result ≡ nearly_full self.now.settings reading.now }
     {
         let settings = self.settings;
         reading.vbat >= settings.vbat_chg
-            && reading.cur >= Milliamps(0)
-            && reading.cur <= settings.ifst_term
+            && (Milliamps(0)..=settings.ifst_term).contains(&reading.cur)
     }
 }
 
 /// Whether the battery is too cold or too hot to be charged.
 fn is_outside(reading: &Reading) -> bool
-    ensures answer { result ≡ outside (measured reading.now) }
+    ensures answer { result ≡ outside reading.now }
 {
-    reading.temp < Celsius(2) || reading.temp > Celsius(58)
+    !(Celsius(2)..=Celsius(58)).contains(&reading.temp)
 }
 
 /// Whether the battery's voltage is so many millivolts or more above the system's.
 fn is_above(reading: &Reading, millivolts: u16) -> bool
-    ensures answer { result ≡ above millivolts (measured reading.now) }
+    ensures answer { result ≡ above millivolts reading.now }
 {
     u32::from(reading.vbat.0) >= u32::from(reading.vsys.0) + u32::from(millivolts)
 }

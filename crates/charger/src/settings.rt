@@ -1,8 +1,7 @@
 //! Nine settings, as somebody wrote them down, and as they were checked.
 
-ghost use Rattle.std.specs.Prelude.{◌<◌, ◌≤◌, pos, ◌≤ℤ◌};
-
 use reading::*;
+use std::marker::Model;
 
 pub mod checking;
 
@@ -33,23 +32,19 @@ pub struct Draft {
 #[derive(Drop)]
 pub struct Settings {
     draft: Draft,
-    ghost lo_low: { 2100 ≤ draft.vpre_lo.0 },
-    ghost lo_top: { draft.vpre_lo.0 ≤ draft.vpre_hi.0 },
-    ghost hi_top: { draft.vpre_hi.0 ≤ 3600 },
-    ghost tri_low: { 20 ≤ draft.itri.0 },
-    ghost tri_top: { draft.itri.0 ≤ 100 },
-    ghost pre_low: { 100 ≤ draft.ipre.0 },
-    ghost pre_top: { draft.ipre.0 ≤ 500 },
-    ghost fst_low: { 100 ≤ draft.ifst.0 },
-    ghost fst_top: { draft.ifst.0 ≤ 2000 },
-    ghost term_low: { pos 10 ≤ℤ draft.ifst_term.0 },
-    ghost term_top: { draft.ifst_term.0 ≤ℤ pos 200 },
-    ghost ovp_low: { 4400 ≤ draft.vbat_ovp.0 },
-    ghost ovp_top: { draft.vbat_ovp.0 ≤ 4800 },
-    ghost chg_low: { 3720 ≤ draft.vbat_chg.0 },
-    ghost chg_top: { draft.vbat_chg.0 ≤ 4340 },
-    ghost mnt_low: { 3600 ≤ draft.vbat_mnt.0 },
-    ghost mnt_top: { draft.vbat_mnt.0 < draft.vbat_chg.0 },
+}
+
+// Contracts see settings as their draft, which passes the check.
+impl Model for Settings {
+    ghost use Rattle.std.specs.Prelude.{◌≡◌, Ok};
+    ghost use Rattle.charger.specs.declared.settings.Draft.{Draft};
+    ghost use Rattle.charger.specs.Checks.{checked};
+
+    ghost Value = { Draft };
+
+    ghost view = { λ s. s.draft };
+
+    ghost invariant = { λ s. checked s.draft ≡ Ok s.draft };
 }
 
 /// A setting, by its number from 1.

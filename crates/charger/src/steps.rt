@@ -1,20 +1,18 @@
 //! What happens to a charger: readings, resets, holds.
 
 ghost use Rattle.std.specs.Prelude.{◌≡◌};
-ghost use Rattle.reading.specs.Limits.{measured};
 ghost use Rattle.charger.specs.Chargers.{made, taking, resetting, holding_on, letting_go};
 
 use crate::conditions::*;
 use crate::rules::*;
 use crate::settings::*;
-use crate::timing::*;
 use crate::*;
 use watch::thresholds::levels::*;
 
 impl Charger {
     /// A charger with these settings, which are used up; it has seen nothing.
     pub fn new(settings: Settings) -> Charger
-        ensures answer { result ≡ made settings.draft }
+        ensures answer { result ≡ made settings }
     {
         Charger {
             settings: settings.values(),
@@ -23,14 +21,14 @@ impl Charger {
             held: false,
             input_good: false,
             over_voltage: false,
-            hot: too_hot_clock(),
-            clocks: Clocks::new(),
+            hot: hot_clock(),
+            clocks: Clocks::default(),
         }
     }
 
     /// Takes one good reading: first what it begins and ends, then the rules, then the clocks.
     pub fn see(&mut self, reading: &Reading)
-        ensures after { self.new ≡ taking (measured reading.now) self.old }
+        ensures after { self.new ≡ taking reading.now self.old }
     {
         self.input_good = input_after(self.input_good, reading);
         self.over_voltage = over_voltage_after(self.over_voltage, &self.settings, reading);
@@ -55,7 +53,7 @@ impl Charger {
         ensures after { self.new ≡ holding_on self.old }
     {
         self.held = true;
-        if !matches!(self.code, Code::BattError) {
+        if self.code != Code::BattError {
             self.code = Code::Suspend;
         }
     }

@@ -1,36 +1,22 @@
 //! When clocks start, and how far they have come.
 
-ghost use Rattle.std.specs.Prelude.{◌≡◌, None};
+ghost use Rattle.std.specs.Prelude.{◌≡◌};
 ghost use Rattle.watch.specs.Rule.{span_from};
-ghost use Rattle.charger.specs.Timing.{stopped, started};
+ghost use Rattle.charger.specs.Timing.{started};
 
 use crate::*;
+use watch::runs::*;
 
 impl Clock {
     /// The ticks from the reading that started it, 0 where none did.
     pub(crate) fn elapsed(&self, tick: u64) -> u64
         ensures answer { result ≡ span_from self.now.since tick }
     {
-        match self.since {
-            Some(since) => tick.saturating_sub(since),
-            None => 0,
-        }
+        span_from(self.since, tick)
     }
 }
 
 impl Clocks {
-    /// No clock has started.
-    pub(crate) fn new() -> Clocks
-        ensures answer { result ≡ stopped }
-    {
-        let clock = Clock { since: None };
-        Clocks {
-            pre: clock,
-            fast: clock,
-            top: clock,
-        }
-    }
-
     /// A reading at this tick led from one code to another, which may start a clock anew.
     pub(crate) fn follow(&mut self, old: Code, new: Code, tick: u64)
         ensures after { self.new ≡ started old new tick self.old }

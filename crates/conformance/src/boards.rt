@@ -6,144 +6,141 @@ use board::*;
 use frames::*;
 use reading::*;
 use report::arguments::*;
+use report::refusal::*;
 use std::alloc::{AllocError, Global};
 use std::io;
-use tape::opening::*;
-use tape::taking::*;
 use tape::*;
+use worked_cases::tally::*;
 
 const TAPE: &[u8] =
     b"tick,vbat,vsys,dcin,cur,temp\n0,3700,3700,5000,16300,25\nx\n1,6001,3700,5000,0,25\n";
 
-/// What a take comes to: the number of the answer, then the current of a reading, or cause, place
-/// and kind of a blank.
-#[derive(Clone, Copy, PartialEq, Eq)]
-enum Came {
-    Reading(i16),
-    Blank(u8, u64, u8),
-    Nothing,
-    Other,
-}
-
-fn take_one<B: Board>(board: &mut B) -> Came {
-    match board.take() {
-        Ok(reading) => Came::Reading(reading.cur.0),
-        Err(fault) => match fault {
-            Fault::NoReading(blank) => {
-                Came::Blank(blank.cause.number(), blank.place, blank.kind.number())
-            }
-            Fault::NothingWaiting => Came::Nothing,
-            Fault::AboveCeiling => Came::Other,
-        },
-    }
-}
-
 /// Whether the board drives up to its ceiling and no further, and a refusal with 4 changes nothing.
 fn drives<B: Board>(board: &mut B, ceiling: u16) -> bool {
-    if board.ceiling().0 != ceiling || board.driven().0 != 0 {
-        return false;
+    let top = ChargeMilliamps(ceiling);
+    let beyond = ChargeMilliamps(ceiling.saturating_add(1));
+    board.ceiling() == top
+        && board.driven() == ChargeMilliamps(0)
+        && board.drive(top).is_ok()
+        && board.driven() == top
+        && board.drive(beyond).is_err_and(|fault| u8::from(fault) == 4)
+        && board.driven() == top
+}
+
+/// Whether a take gave a reading with this current.
+fn reads(came: Result<Reading, Fault>, milliamps: i16) -> bool {
+    came.is_ok_and(|reading| reading.cur == Milliamps(milliamps))
+}
+
+/// Whether a take gave a blank, by the numbers of its cause, its place and its kind: compared as enums it
+/// would be no shorter, and no case would try the numbers.
+fn is_blank(came: Result<Reading, Fault>, cause: u8, place: u64, kind: u8) -> bool {
+    match came {
+        Err(Fault::NoReading(blank)) => {
+            u8::from(blank.cause) == cause && blank.place == place && u8::from(blank.kind) == kind
+        }
+        _ => false,
     }
-    let top = board.drive(ChargeMilliamps(ceiling)).is_ok() && board.driven().0 == ceiling;
-    let beyond = match board.drive(ChargeMilliamps(ceiling.saturating_add(1))) {
-        Ok(_) => false,
-        Err(fault) => fault.number() == 4,
-    };
-    top && beyond && board.driven().0 == ceiling
+}
+
+/// Whether nothing waits any more, however often it is asked.
+fn is_done<B: Board>(board: &mut B) -> bool {
+    board.take() == Err(Fault::NothingWaiting) && board.take() == Err(Fault::NothingWaiting)
 }
 
 fn tape_calls() -> bool {
-    match Tape::open(TAPE) {
-        Ok(tape) => {
-            let mut board = tape;
-            let driven = drives(&mut board, 500);
-            let first = take_one(&mut board) == Came::Reading(16300);
-            let second = take_one(&mut board) == Came::Blank(1, 3, 1);
-            let third = take_one(&mut board) == Came::Blank(2, 4, 1);
-            let end = take_one(&mut board) == Came::Nothing
-                && take_one(&mut board) == Came::Nothing;
-            driven && first && second && third && end && board.driven().0 == 500
-        }
-        Err(_) => false,
-    }
+    let Ok(mut board) = Tape::open(TAPE) else {
+        return false;
+    };
+    drives(&mut board, 500)
+        && reads(board.take(), 16300)
+        && is_blank(board.take(), 1, 3, 1)
+        && is_blank(board.take(), 2, 4, 1)
+        && is_done(&mut board)
+        && board.driven() == ChargeMilliamps(500)
 }
 
 fn frame_calls() -> bool {
     let mut board = Frames::open(
         b"\x00\x00\x00\x00\x00\x00\x00\x07\x0e\x74\x0e\x74\x13\x88\x80\x78\xaf\x00\x01",
     );
-    let driven = drives(&mut board, 2000);
-    let first = take_one(&mut board) == Came::Reading(-120);
-    let second = take_one(&mut board) == Came::Blank(3, 2, 2);
-    driven && first && second && take_one(&mut board) == Came::Nothing && board.driven().0 == 2000
+    drives(&mut board, 2000)
+        && reads(board.take(), -120)
+        && is_blank(board.take(), 3, 2, 2)
+        && is_done(&mut board)
+        && board.driven() == ChargeMilliamps(2000)
 }
 
 /// Two trims hold one after the other, and hand on blanks, drive and ceiling.
 fn trim_calls() -> bool {
-    let Ok(up) = TrimAmount::new(Milliamps(200)) else {
+    let Ok(up) = TrimAmount::try_from(Milliamps(200)) else {
         return false;
     };
-    let Ok(down) = TrimAmount::new(Milliamps(-200)) else {
+    let Ok(down) = TrimAmount::try_from(Milliamps(-200)) else {
         return false;
     };
-    match Tape::open(TAPE) {
-        Ok(tape) => {
-            let mut board = Trim::new(Trim::new(tape, up), down);
-            let driven = drives(&mut board, 500);
-            let first = take_one(&mut board) == Came::Reading(16183);
-            driven && first && take_one(&mut board) == Came::Blank(1, 3, 1)
-        }
-        Err(_) => false,
-    }
+    let Ok(tape) = Tape::open(TAPE) else {
+        return false;
+    };
+    let mut board = Trim::new(Trim::new(tape, up), down);
+    drives(&mut board, 500) && reads(board.take(), 16183) && is_blank(board.take(), 1, 3, 1)
 }
 
-/// Arguments, and the number of their refusal: 0 where they are understood, 255 without a number.
-const ARGUMENTS: [(&str, &str, u8); 16] = [
-    ("--trim", "0", 0),
-    ("--trim", "-0", 0),
-    ("--trim", "007", 0),
-    ("--trim", "200", 0),
-    ("--trim", "-200", 0),
-    ("--trim", "201", 14),
-    ("--trim", "-201", 14),
-    ("--trim", "1000", 14),
-    ("--trim", "99999999999999999999999999", 14),
-    ("--trim", "", 255),
-    ("--trim", "-", 255),
-    ("--trim", "+5", 255),
-    ("--trim", " 5", 255),
-    ("--trim", "5 ", 255),
-    ("--trim", "five", 255),
-    ("--tram", "5", 255),
+/// Arguments that are understood, or their refusal.
+const ARGUMENTS: [(&str, &str, Result<(), Refusal>); 16] = [
+    ("--trim", "0", Ok(())),
+    ("--trim", "-0", Ok(())),
+    ("--trim", "007", Ok(())),
+    ("--trim", "200", Ok(())),
+    ("--trim", "-200", Ok(())),
+    ("--trim", "201", Err(Refusal::AmountOutOfRange)),
+    ("--trim", "-201", Err(Refusal::AmountOutOfRange)),
+    ("--trim", "1000", Err(Refusal::AmountOutOfRange)),
+    (
+        "--trim",
+        "99999999999999999999999999",
+        Err(Refusal::AmountOutOfRange),
+    ),
+    ("--trim", "", Err(Refusal::NoWholeNumber)),
+    ("--trim", "-", Err(Refusal::NoWholeNumber)),
+    ("--trim", "+5", Err(Refusal::NoWholeNumber)),
+    ("--trim", " 5", Err(Refusal::NoWholeNumber)),
+    ("--trim", "5 ", Err(Refusal::NoWholeNumber)),
+    ("--trim", "five", Err(Refusal::NoWholeNumber)),
+    ("--tram", "5", Err(Refusal::UnknownArgument)),
 ];
 
-fn understood(heap: Global, option: &str, amount: &str) -> Result<u8, AllocError> {
-    let mut arguments = Vec::new(heap);
-    arguments.push(String::from_str(heap, option)?)?;
-    arguments.push(String::from_str(heap, amount)?)?;
-    match requested_trim(arguments.as_slice()) {
-        Ok(_) => Ok(0),
-        Err(refusal) => Ok(refusal.number().unwrap_or(255)),
-    }
+/// Whether arguments come to what they should, and a refusal of an amount has the number 14 and any other none.
+fn understood(
+    heap: Global,
+    option: &str,
+    amount: &str,
+    wanted: Result<(), Refusal>,
+) -> Result<bool, AllocError> {
+    let arguments = vec![in heap;
+        String::from_str(heap, option)?,
+        String::from_str(heap, amount)?,
+    ]?;
+    Ok(match requested_trim(arguments.as_slice()) {
+        Ok(_) => wanted == Ok(()),
+        Err(refusal) => {
+            let number = match refusal {
+                Refusal::AmountOutOfRange => Some(14),
+                _ => None,
+            };
+            wanted == Err(refusal) && refusal.number() == number
+        }
+    })
 }
 
-/// How many of these go wrong.
-pub(crate) fn wrong(heap: Global) -> Result<u64, AllocError> {
-    let mut wrong: u64 = 0;
-    for right in [tape_calls(), frame_calls(), trim_calls()] {
-        if !right {
-            wrong = wrong.saturating_add(1);
-        }
-    }
-    for (option, amount, number) in ARGUMENTS {
-        if understood(heap, option, amount)? != number {
-            wrong = wrong.saturating_add(1);
-        }
-    }
-    Ok(wrong)
-}
-
-/// The line of these cases.
+/// Tries all of these, with a line at the end.
 pub(crate) fn check(rt: &HostRuntime) -> io::Result<()> {
-    let wrong = wrong(rt.alloc())?;
-    println!(rt; "boards and arguments: 19 cases, {wrong} wrong")
+    let mut tally = Tally::default();
+    for right in [tape_calls(), frame_calls(), trim_calls()] {
+        tally.right(right);
+    }
+    for (option, amount, wanted) in ARGUMENTS {
+        tally.right(understood(rt.alloc(), option, amount, wanted)?);
+    }
+    println!(rt; "boards and arguments: {tally}")
 }

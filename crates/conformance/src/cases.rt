@@ -4,21 +4,38 @@
 //! over, `> TEXT` is a line of output, and `last TEXT` the last one, where only that counts. A line
 //! that begins with `#` is a comment.
 
+ghost use Rattle.std.specs.Prelude.{◌<◌, length, IfSome};
+
 use std::alloc::{AllocError, Global};
 
 /// One case.
 #[derive(Drop)]
 pub struct Case {
     pub title: String,
-    /// The amount of the trim, as text; empty where there is none.
-    pub trim: String,
+    /// The amount of the trim, as text, where there is one.
+    pub trim: Option<String>,
     pub input: Vec<u8>,
-    /// The lines of output, each with its line feed.
-    pub wanted: String,
-    /// Only the last line of output is compared.
-    pub only_last: bool,
-    /// Every line of the case was one of those above.
-    pub understood: bool,
+    pub wanted: Wanted,
+}
+
+/// The output that a case asks for.
+#[derive(Drop)]
+pub enum Wanted {
+    /// These lines, each with its line feed.
+    Lines(String),
+    /// Lines of which only the last counts.
+    Last(String),
+    /// Some line of the case was none of those above, so nothing agrees with it.
+    NotUnderstood,
+}
+
+impl Wanted {
+    pub(crate) fn text(&self) -> &str {
+        match self {
+            Wanted::Lines(lines) | Wanted::Last(lines) => lines.as_str(),
+            Wanted::NotUnderstood => "",
+        }
+    }
 }
 
 /// The cases of a file.
@@ -38,11 +55,9 @@ impl Case {
     fn new(heap: Global, title: &str) -> Result<Case, AllocError> {
         Ok(Case {
             title: String::from_str(heap, title)?,
-            trim: String::new(heap),
+            trim: None,
             input: Vec::new(heap),
-            wanted: String::new(heap),
-            only_last: false,
-            understood: true,
+            wanted: Wanted::Lines(String::new(heap)),
         })
     }
 
@@ -52,40 +67,52 @@ impl Case {
             return Ok(());
         }
         if let Some(amount) = line.strip_prefix("trim ") {
-            return self.trim.push_str(amount);
+            self.trim = Some(String::from_str(heap, amount)?);
+        } else if let Some(piece) = line.strip_prefix("< ") {
+            self.feed(heap, piece, 1)?;
+        } else if let Some(repeated) = line.strip_prefix("*") {
+            self.feed_often(heap, repeated)?;
+        } else if let Some(text) = line.strip_prefix("> ") {
+            self.expect(text)?;
+        } else if let Some(text) = line.strip_prefix("last ") {
+            self.expect_last(heap, text)?;
+        } else {
+            self.wanted = Wanted::NotUnderstood;
         }
-        if let Some(piece) = line.strip_prefix("< ") {
-            return self.feed(heap, piece, 1);
-        }
-        if let Some(repeated) = line.strip_prefix("*") {
-            return self.feed_often(heap, repeated);
-        }
-        if let Some(text) = line.strip_prefix("> ") {
-            return self.expect(text);
-        }
-        if let Some(text) = line.strip_prefix("last ") {
-            self.only_last = true;
-            return self.expect(text);
-        }
-        self.understood = false;
         Ok(())
     }
 
     /// Adds a line of output.
     fn expect(&mut self, text: &str) -> Result<(), AllocError> {
-        self.wanted.push_str(text)?;
-        self.wanted.push('\n')
+        match &mut self.wanted {
+            Wanted::Lines(lines) | Wanted::Last(lines) => {
+                lines.push_str(text)?;
+                lines.push('\n')
+            }
+            Wanted::NotUnderstood => Ok(()),
+        }
+    }
+
+    /// Adds a line of output, of which only the last counts from now on.
+    fn expect_last(&mut self, heap: Global, text: &str) -> Result<(), AllocError> {
+        if let Wanted::Lines(_) = self.wanted {
+            self.wanted = Wanted::Last(String::new(heap));
+        }
+        self.expect(text)
     }
 
     /// Adds a piece of input: a count, a blank, and what is to come so often.
     fn feed_often(&mut self, heap: Global, repeated: &str) -> Result<(), AllocError> {
-        if let Some((count, piece)) = repeated.split_once(' ') {
-            if let Ok(count) = count.parse::<u64>() {
-                return self.feed(heap, piece, count);
+        let counted = repeated
+            .split_once(' ')
+            .and_then(|(count, piece)| Some((count.parse().ok()?, piece)));
+        match counted {
+            Some((count, piece)) => self.feed(heap, piece, count),
+            None => {
+                self.wanted = Wanted::NotUnderstood;
+                Ok(())
             }
         }
-        self.understood = false;
-        Ok(())
     }
 
     /// Adds a piece of input so many times.
@@ -98,39 +125,33 @@ impl Case {
     }
 }
 
-/// How far an escape has come.
-#[derive(Clone, Copy)]
-enum Escape {
-    None,
-    Begun,
-    High,
-    Low(u8),
-}
-
 /// The bytes that a text stands for: `\n`, `\r`, `\t`, `\\` and `\xHH` are one each.
 fn unescaped(heap: Global, text: &str) -> Result<Vec<u8>, AllocError> {
     let mut bytes = Vec::new(heap);
-    let mut escape = Escape::None;
-    for byte in text.bytes() {
-        escape = match escape {
-            Escape::None if byte == b'\\' => Escape::Begun,
-            Escape::Begun if byte == b'x' => Escape::High,
-            Escape::High => Escape::Low(digit(byte)),
-            Escape::None => {
-                bytes.push(byte)?;
-                Escape::None
-            }
-            Escape::Begun => {
-                bytes.push(named(byte))?;
-                Escape::None
-            }
-            Escape::Low(high) => {
-                bytes.push(high.wrapping_mul(16).wrapping_add(digit(byte)))?;
-                Escape::None
-            }
-        };
+    let mut rest = text.as_bytes();
+    while let Some((byte, behind)) = first_byte(rest) {
+        bytes.push(byte)?;
+        rest = behind;
     }
     Ok(bytes)
+}
+
+/// The byte that a text stands for first, and the text behind it; an escape that the text breaks off stands for nothing.
+fn first_byte(text: &[u8]) -> Option<(u8, &[u8])>
+    ensures shorter { IfSome result (λ r. length r.1.now < length text.now) }
+{
+    match text {
+        [b'\\', b'x', high, low, rest @ ..] => {
+            Some((
+                digit(*high).wrapping_mul(16).wrapping_add(digit(*low)),
+                rest,
+            ))
+        }
+        [b'\\'] | [b'\\', b'x'] | [b'\\', b'x', _] => None,
+        [b'\\', letter, rest @ ..] => Some((named(*letter), rest)),
+        [byte, rest @ ..] => Some((*byte, rest)),
+        [] => None,
+    }
 }
 
 /// The byte of an escape with one letter.
@@ -143,11 +164,7 @@ fn named(letter: u8) -> u8 {
     }
 }
 
-/// The value of a hexadecimal digit with upper letters.
+/// The value of a hexadecimal digit.
 fn digit(byte: u8) -> u8 {
-    match byte {
-        b'0'..=b'9' => byte - b'0',
-        b'A'..=b'F' => byte - b'A' + 10,
-        _ => 0,
-    }
+    char::from(byte).to_digit(16).map_or(0, |value| value as u8)
 }

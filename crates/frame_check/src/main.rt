@@ -12,8 +12,8 @@ use report::arguments::*;
 use report::refusal::*;
 use report::*;
 use std::alloc::{AllocError, Global};
+use std::io;
 use std::io::Read;
-use std::{env, io};
 
 /// The report on these bytes as frames, under the trim that is asked for; the first has place 1.
 fn checked(heap: Global, bytes: &[u8], trim: Option<TrimAmount>) -> Result<String, AllocError>
@@ -22,25 +22,10 @@ fn checked(heap: Global, bytes: &[u8], trim: Option<TrimAmount>) -> Result<Strin
     report_under(heap, Frames::open(bytes), trim, 1)
 }
 
-/// The trim that the command line asks for. Arguments that are no text are not understood either.
-fn asked(rt: &HostRuntime) -> io::Result<Result<Option<TrimAmount>, Refusal>> {
-    match env::args(rt) {
-        Ok(all) => {
-            let arguments: Vec<String> = all.skip(1).collect(rt.alloc())?;
-            Ok(requested_trim(arguments.as_slice()))
-        }
-        Err(error) => {
-            if error.kind() != io::ErrorKind::InvalidData {
-                return Err(error);
-            }
-            Ok(Err(Refusal::UnknownArgument))
-        }
-    }
-}
-
+// What this and the other program share is no shorter as a function that takes both their differences as closures.
 fn main(rt: HostRuntime) -> io::Result<()> {
     let heap = rt.alloc();
-    match asked(&rt)? {
+    match command_line_trim(&rt)? {
         Ok(trim) => {
             let mut bytes = Vec::new(heap);
             rt.stdin().read_to_end(&mut bytes)?;

@@ -1,3 +1,3 @@
 pub mod Cuts
-pub mod Numbers
-mod Standing
+pub mod Parts
+pub mod Standing

@@ -32,6 +32,10 @@ near q = record { below = omega (arith, ints); above = omega (arith, ints) }
 pub follows : TheCountFollowsTheCharge
 follows es s = let e = same es s in (subst (Close (count_of (kept es))) e (near (kept es)), e)
 
+-- the count of a gauge that keeps what its history says
+pub close : (es : List Event) (q : ℕ) → q ≡ kept es → Stayed es → Close (count_of q) (exact es)
+close es q is s = subst (λ k. Close (count_of k) (exact es)) (sym is) (follows es s).0
+
 pub least : TheLeastChargeHasItsCount
 least k = (omega arith, λ q e. omega arith)
 

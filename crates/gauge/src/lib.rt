@@ -1,9 +1,8 @@
 //! The coulomb counter: the charge that is kept, and the count that the chip shows for it.
 #![tactic(auto)]
 
-ghost use Rattle.std.specs.Prelude.{◌≤◌};
-
 use reading::*;
+use std::marker::Model;
 
 pub mod counting;
 pub mod promises;
@@ -12,7 +11,20 @@ pub mod promises;
 #[derive(Clone, Copy, PartialEq, Eq, Debug)]
 pub struct Gauge {
     charge: u64,
-    ghost within: { charge ≤ 163839999999 },
+}
+
+// Contracts see a gauge as its charge.
+impl Model for Gauge {
+    ghost use Rattle.std.specs.Prelude.{ℕ, ◌≤◌};
+    ghost use Rattle.gauge.specs.Counts.{fullest};
+
+    ghost Value = { ℕ };
+
+    ghost view = { λ g. g.charge };
+
+    ghost invariant = { λ g. g.charge ≤ fullest };
+
+    ghost inverse = { λ q. record { charge = q } };
 }
 
 /// A byte of the count, by its register.

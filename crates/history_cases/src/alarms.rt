@@ -1,19 +1,18 @@
 //! Alarms by readings and writes: the cases of `alarms.txt`.
 //!
-//! `alarm KIND THRESHOLD DURATION` makes the alarm of a case from two register bytes. Then each line is something that happens, and behind ` = ` the bit that it should lead to:
-//! `see TICK VALUE` (a current or a temperature), `threshold BYTE` or `duration BYTE`.
+//! `alarm KIND THRESHOLD DURATION` makes the alarm of a case from two register bytes. Then each line is something that
+//! happens, and behind ` = ` the bit that it should lead to: `see TICK VALUE` (a current or a temperature),
+//! `threshold BYTE` or `duration BYTE`.
 
 use crate::cases::*;
-use reading::*;
 use std::alloc::{AllocError, Global};
-use watch::thresholds::levels::*;
 use watch::thresholds::*;
 use watch::*;
+use worked_cases::watching::*;
 
-/// The alarm of a case.
+/// An alarm of any kind.
 #[derive(Clone, Copy)]
 pub(crate) enum Watched {
-    Nothing,
     OverCurrent(Alarm<OverCurrent>),
     Hot(Alarm<Hot>),
     Cold(Alarm<Cold>),
@@ -27,22 +26,27 @@ enum Event {
     Duration(u8),
 }
 
-impl Trial for Watched {
-    fn new() -> Watched {
-        Watched::Nothing
+/// The alarm of a case, once it is made.
+impl Trial for Option<Watched> {
+    fn new() -> Option<Watched> {
+        None
     }
 
     fn agrees(&mut self, _heap: Global, line: &str) -> Result<bool, AllocError> {
-        let after = match line.strip_prefix("alarm ") {
-            Some(parts) => made(parts),
-            None => tried(*self, line),
-        };
-        match after {
-            Some(watched) => {
-                *self = watched;
-                Ok(true)
+        match line.strip_prefix("alarm ") {
+            Some(parts) => {
+                let alarm = made(parts);
+                *self = alarm.or(*self);
+                Ok(alarm.is_some())
             }
-            None => Ok(false),
+            None => {
+                let mut after = *self;
+                let agrees = tried(&mut after, line) == Some(true);
+                if agrees {
+                    *self = after;
+                }
+                Ok(agrees)
+            }
         }
     }
 }
@@ -51,25 +55,21 @@ impl Trial for Watched {
 fn made(parts: &str) -> Option<Watched> {
     let (kind, rest) = word(parts);
     let (threshold, duration) = word(rest);
-    let threshold = byte(threshold)?;
-    let duration = byte(duration)?;
+    let threshold: u8 = threshold.parse().ok()?;
+    let duration = duration.parse().ok()?;
     match kind {
-        "over" => Some(Watched::OverCurrent(Alarm::new(OverCurrent::meant(threshold), duration))),
-        "hot" => Some(Watched::Hot(Alarm::new(Hot::meant(threshold), duration))),
-        "cold" => Some(Watched::Cold(Alarm::new(Cold::meant(threshold), duration))),
+        "over" => Some(Watched::OverCurrent(Alarm::new(threshold.into(), duration))),
+        "hot" => Some(Watched::Hot(Alarm::new(threshold.into(), duration))),
+        "cold" => Some(Watched::Cold(Alarm::new(threshold.into(), duration))),
         _ => None,
     }
 }
 
-/// The alarm after a line, if its bit is as it should be.
-fn tried(watched: Watched, line: &str) -> Option<Watched> {
+/// Whether the event of a line leads to the bit that it should.
+fn tried(watched: &mut Option<Watched>, line: &str) -> Option<bool> {
     let (event, wanted) = line.split_once(" = ")?;
-    let after = watched.after(read_event(event)?)?;
-    if after.bit() == (wanted == "1") {
-        Some(after)
-    } else {
-        None
-    }
+    let bit = watched.as_mut()?.happen(read_event(event)?)?;
+    Some(bit == (wanted == "1"))
 }
 
 fn read_event(event: &str) -> Option<Event> {
@@ -77,89 +77,30 @@ fn read_event(event: &str) -> Option<Event> {
     match what {
         "see" => {
             let (tick, value) = word(rest);
-            Some(Event::See(natural(tick)?, integer(value)?))
+            Some(Event::See(tick.parse().ok()?, value.parse().ok()?))
         }
-        "threshold" => Some(Event::Threshold(byte(rest)?)),
-        "duration" => Some(Event::Duration(byte(rest)?)),
+        "threshold" => Some(Event::Threshold(rest.parse().ok()?)),
+        "duration" => Some(Event::Duration(rest.parse().ok()?)),
         _ => None,
     }
 }
 
 impl Watched {
-    fn after(self, event: Event) -> Option<Watched> {
+    /// The bit after an event.
+    fn happen(&mut self, event: Event) -> Option<bool> {
         match self {
-            Watched::Nothing => None,
-            Watched::OverCurrent(alarm) => Some(Watched::OverCurrent(happened(alarm, event)?)),
-            Watched::Hot(alarm) => Some(Watched::Hot(happened(alarm, event)?)),
-            Watched::Cold(alarm) => Some(Watched::Cold(happened(alarm, event)?)),
-        }
-    }
-
-    fn bit(self) -> bool {
-        match self {
-            Watched::Nothing => false,
-            Watched::OverCurrent(alarm) => alarm.bit(),
-            Watched::Hot(alarm) => alarm.bit(),
-            Watched::Cold(alarm) => alarm.bit(),
+            Watched::OverCurrent(alarm) => happen(alarm, event),
+            Watched::Hot(alarm) => happen(alarm, event),
+            Watched::Cold(alarm) => happen(alarm, event),
         }
     }
 }
 
-/// A threshold with a register byte, and a reading in which the watched quantity has a value.
-trait Registered: Threshold + Copy {
-    fn meant(byte: u8) -> Self;
-
-    fn reading(tick: u64, value: i64) -> Option<Reading>;
-}
-
-impl Registered for OverCurrent {
-    fn meant(byte: u8) -> OverCurrent {
-        OverCurrent::of_byte(byte)
-    }
-
-    fn reading(tick: u64, value: i64) -> Option<Reading> {
-        measured(tick, value, 25)
-    }
-}
-
-impl Registered for Hot {
-    fn meant(byte: u8) -> Hot {
-        Hot::of_byte(byte)
-    }
-
-    fn reading(tick: u64, value: i64) -> Option<Reading> {
-        measured(tick, 0, value)
-    }
-}
-
-impl Registered for Cold {
-    fn meant(byte: u8) -> Cold {
-        Cold::of_byte(byte)
-    }
-
-    fn reading(tick: u64, value: i64) -> Option<Reading> {
-        measured(tick, 0, value)
-    }
-}
-
-fn happened<T: Registered>(mut alarm: Alarm<T>, event: Event) -> Option<Alarm<T>> {
+fn happen<T: Watching>(alarm: &mut Alarm<T>, event: Event) -> Option<bool> {
     match event {
-        Event::See(tick, value) => alarm.see(&T::reading(tick, value)?),
-        Event::Threshold(byte) => alarm.set_threshold(T::meant(byte)),
+        Event::See(tick, value) => alarm.see(&T::reading(tick, value).ok()?),
+        Event::Threshold(byte) => alarm.set_threshold(T::from(byte)),
         Event::Duration(ticks) => alarm.set_duration(ticks),
     }
-    Some(alarm)
-}
-
-/// A reading with this current and this temperature, and nothing else of note.
-fn measured(tick: u64, cur: i64, temp: i64) -> Option<Reading> {
-    let measured = Measured {
-        tick,
-        vbat: 3700,
-        vsys: 3700,
-        dcin: 5000,
-        cur,
-        temp,
-    };
-    measured.reading()
+    Some(alarm.bit())
 }

@@ -1,12 +1,12 @@
 //! The cases of a file: `case TITLE` begins one, and the lines that follow are tried one by one. A
 //! line that begins with `#` is a comment.
 
-use reading::*;
 use std::alloc::{AllocError, Global};
 use std::{fs, io};
 
 /// What the lines of a case are tried on.
 pub(crate) trait Trial: Copy {
+    /// What a case begins with; no `Default`, since a draft has none.
     fn new() -> Self;
 
     /// Does what a line says, and tells whether that led where it should.
@@ -15,15 +15,15 @@ pub(crate) trait Trial: Copy {
 
 /// Tries the cases of one file, with a line for each line of it that goes wrong and a line at the end.
 pub(crate) fn check<T: Trial>(rt: &HostRuntime, name: &str) -> io::Result<()> {
+    // As in the other program that reads its cases: a shared function that reads a file would have nothing to promise.
     let heap = rt.alloc();
     let path = format!(in heap; "{name}.txt")?;
     let text = fs::read_to_string(rt, path.as_str())?;
     let mut trial = T::new();
-    let mut number: u64 = 0;
+    // Two counts that different lines of the file add to, so no count of a chain.
     let mut cases: u64 = 0;
     let mut wrong: u64 = 0;
-    for line in text.lines() {
-        number = number.saturating_add(1);
+    for (line, number) in text.lines().zip(1u64..) {
         if line.starts_with("case ") {
             cases = cases.saturating_add(1);
             trial = T::new();
@@ -45,20 +45,5 @@ fn passes<T: Trial>(trial: &mut T, heap: Global, line: &str) -> Result<bool, All
 
 /// The first word of a text, and what follows it.
 pub(crate) fn word(text: &str) -> (&str, &str) {
-    match text.split_once(' ') {
-        Some((first, rest)) => (first, rest),
-        None => (text, ""),
-    }
-}
-
-pub(crate) fn natural(text: &str) -> Option<u64> {
-    text.parse::<u64>().ok()
-}
-
-pub(crate) fn integer(text: &str) -> Option<i64> {
-    text.parse::<i64>().ok()
-}
-
-pub(crate) fn byte(text: &str) -> Option<u8> {
-    text.parse::<u8>().ok()
+    text.split_once(' ').unwrap_or((text, ""))
 }

@@ -34,7 +34,10 @@ impl Trial for Charging {
     fn agrees(&mut self, heap: Global, line: &str) -> Result<bool, AllocError> {
         match line.split_once(" = ") {
             Some((event, wanted)) => {
-                let came = self.shown(heap, event)?;
+                let Some(charger) = self.happen(event) else {
+                    return Ok(false);
+                };
+                let came = shown(heap, charger, self.ceiling)?;
                 Ok(came.as_str() == wanted)
             }
             None => Ok(self.prepare(line).is_some()),
@@ -50,19 +53,7 @@ impl Charging {
                 self.ceiling = ChargeMilliamps(ceiling.parse::<u16>().ok()?);
                 Some(())
             }
-            None => set(&mut self.draft, line),
-        }
-    }
-
-    /// The code and the drive after an event, as a case writes them.
-    fn shown(&mut self, heap: Global, event: &str) -> Result<String, AllocError> {
-        match self.happen(event) {
-            Some(charger) => {
-                let code = charger.code().byte();
-                let drive = charger.drive(self.ceiling).0;
-                format!(in heap; "{code:02X} {drive}")
-            }
-            None => format!(in heap; "not understood"),
+            None => change(&mut self.draft, line),
         }
     }
 
@@ -82,25 +73,31 @@ impl Charging {
     fn present(&self) -> Option<Charger> {
         match self.charger {
             Some(charger) => Some(charger),
-            None => Some(Charger::new(self.draft.check().ok()?)),
+            None => Some(Charger::new(Settings::try_from(self.draft).ok()?)),
         }
     }
 }
 
+/// The code and the drive of a charger, as a case writes them.
+fn shown(heap: Global, charger: Charger, ceiling: ChargeMilliamps) -> Result<String, AllocError> {
+    let code = u8::from(charger.code());
+    let drive = charger.drive(ceiling).0;
+    format!(in heap; "{code:02X} {drive}")
+}
+
 /// The reading with the numbers of a text: tick, vbat, vsys, dcin, cur, temp.
 fn reading(text: &str) -> Option<Reading> {
-    let (tick, rest) = word(text);
-    let (vbat, rest) = word(rest);
-    let (vsys, rest) = word(rest);
-    let (dcin, rest) = word(rest);
-    let (cur, temp) = word(rest);
+    let mut words = text.split(' ');
     let measured = Measured {
-        tick: natural(tick)?,
-        vbat: natural(vbat)?,
-        vsys: natural(vsys)?,
-        dcin: natural(dcin)?,
-        cur: integer(cur)?,
-        temp: integer(temp)?,
+        tick: words.next()?.parse().ok()?,
+        vbat: words.next()?.parse().ok()?,
+        vsys: words.next()?.parse().ok()?,
+        dcin: words.next()?.parse().ok()?,
+        cur: words.next()?.parse().ok()?,
+        temp: words.next()?.parse().ok()?,
     };
-    measured.reading()
+    match words.next() {
+        Some(_) => None,
+        None => Reading::try_from(measured).ok(),
+    }
 }

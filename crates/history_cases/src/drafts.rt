@@ -6,42 +6,35 @@
 use crate::cases::*;
 use charger::settings::checking::*;
 use charger::settings::*;
-use reading::*;
 use std::alloc::{AllocError, Global};
+use worked_cases::drafts::*;
 
 /// A draft on its way to the check.
-#[derive(Clone, Copy)]
-pub(crate) struct Drafting {
-    draft: Draft,
-}
-
-impl Trial for Drafting {
-    fn new() -> Drafting {
-        Drafting {
-            draft: Draft::standard(),
-        }
+impl Trial for Draft {
+    fn new() -> Draft {
+        Draft::standard()
     }
 
     fn agrees(&mut self, heap: Global, line: &str) -> Result<bool, AllocError> {
         match line.strip_prefix("check = ") {
             Some(wanted) => {
-                let came = verdict(heap, self.draft)?;
+                let came = verdict(heap, *self)?;
                 Ok(came.as_str() == wanted)
             }
-            None => Ok(set(&mut self.draft, line).is_some()),
+            None => Ok(change(self, line).is_some()),
         }
     }
 }
 
 /// What the check says of a draft, as a case writes it.
 fn verdict(heap: Global, draft: Draft) -> Result<String, AllocError> {
-    match draft.check() {
+    match Settings::try_from(draft) {
         Ok(_) => format!(in heap; "0"),
         Err(fault) => {
-            let number = fault.number();
+            let number = u8::from(fault);
             match fault {
                 SettingsFault::OutOfRange(setting) => {
-                    let setting = setting.number();
+                    let setting = u8::from(setting);
                     format!(in heap; "{number} {setting}")
                 }
                 SettingsFault::OutOfOrder => format!(in heap; "{number}"),
@@ -51,20 +44,28 @@ fn verdict(heap: Global, draft: Draft) -> Result<String, AllocError> {
 }
 
 /// Changes one setting by a line `set SETTING VALUE`.
-pub(crate) fn set(draft: &mut Draft, line: &str) -> Option<()> {
-    let (setting, value) = word(line.strip_prefix("set ")?);
-    let value = value.parse::<u16>().ok()?;
-    match setting {
-        "vpre_lo" => draft.vpre_lo = Millivolts(value),
-        "vpre_hi" => draft.vpre_hi = Millivolts(value),
-        "itri" => draft.itri = ChargeMilliamps(value),
-        "ipre" => draft.ipre = ChargeMilliamps(value),
-        "ifst" => draft.ifst = ChargeMilliamps(value),
-        "ifst_term" => draft.ifst_term = Milliamps(i16::try_from(value).ok()?),
-        "vbat_ovp" => draft.vbat_ovp = Millivolts(value),
-        "vbat_chg" => draft.vbat_chg = Millivolts(value),
-        "vbat_mnt" => draft.vbat_mnt = Millivolts(value),
-        _ => return None,
+pub(crate) fn change(draft: &mut Draft, line: &str) -> Option<()> {
+    let (name, value) = word(line.strip_prefix("set ")?);
+    let (setting, value) = (named(name)?, value.parse().ok()?);
+    if setting == Setting::IfstTerm {
+        i16::try_from(value).ok()?;
     }
+    set(draft, setting, value);
     Some(())
+}
+
+/// The setting with this name. A function, since the names are those of a file of cases, of which `charger` knows nothing.
+fn named(name: &str) -> Option<Setting> {
+    match name {
+        "vpre_lo" => Some(Setting::VpreLo),
+        "vpre_hi" => Some(Setting::VpreHi),
+        "itri" => Some(Setting::Itri),
+        "ipre" => Some(Setting::Ipre),
+        "ifst" => Some(Setting::Ifst),
+        "ifst_term" => Some(Setting::IfstTerm),
+        "vbat_ovp" => Some(Setting::VbatOvp),
+        "vbat_chg" => Some(Setting::VbatChg),
+        "vbat_mnt" => Some(Setting::VbatMnt),
+        _ => None,
+    }
 }

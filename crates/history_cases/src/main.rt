@@ -2,8 +2,8 @@
 #![tactic(auto)]
 
 use alarms::*;
+use charger::settings::*;
 use chargers::*;
-use drafts::*;
 use std::io;
 
 mod alarms;
@@ -16,7 +16,7 @@ mod rows;
 fn main(rt: HostRuntime) -> io::Result<()> {
     counts::check(&rt)?;
     rows::check(&rt)?;
-    cases::check::<Drafting>(&rt, "settings")?;
-    cases::check::<Watched>(&rt, "alarms")?;
+    cases::check::<Draft>(&rt, "settings")?;
+    cases::check::<Option<Watched>>(&rt, "alarms")?;
     cases::check::<Charging>(&rt, "charger")
 }

@@ -1,7 +1,7 @@
 //! What a board measures: a reading, or a blank that says why there is none.
 #![tactic(auto)]
 
-ghost use Rattle.std.specs.Prelude.{◌≤◌, pos, negsuc, ◌≤ℤ◌};
+use std::marker::Model;
 
 pub mod limits;
 pub mod numbers;
@@ -37,14 +37,22 @@ pub struct Reading {
     pub cur: Milliamps,
     /// The battery's temperature.
     pub temp: Celsius,
-    ghost tick_top: { tick ≤ 1099511627776 },
-    ghost vbat_top: { vbat.0 ≤ 6000 },
-    ghost vsys_top: { vsys.0 ≤ 6000 },
-    ghost dcin_top: { dcin.0 ≤ 30000 },
-    ghost cur_low: { negsuc 16382 ≤ℤ cur.0 },
-    ghost cur_top: { cur.0 ≤ℤ pos 16383 },
-    ghost temp_low: { negsuc 54 ≤ℤ temp.0 },
-    ghost temp_top: { temp.0 ≤ℤ pos 200 },
+}
+
+// Contracts see a reading as its six numbers.
+impl Model for Reading {
+    ghost use Rattle.reading.specs.declared.Measured.{Measured};
+
+    ghost Value = { Measured };
+
+    ghost use Rattle.reading.specs.Limits.{Within};
+    ghost use Rattle.reading.specs.Readings.{measured, from_measured};
+
+    ghost view = { measured };
+
+    ghost invariant = { λ r. Within (measured r) };
+
+    ghost inverse = { from_measured };
 }
 
 /// Six numbers in the columns of a reading, before anyone asked whether they lie within its limits.

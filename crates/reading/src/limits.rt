@@ -1,33 +1,33 @@
 //! The limits of a reading, asked in one place for every board.
 
-ghost use Rattle.std.specs.Prelude.{◌≡◌, true, if◌then◌else◌, Some, None};
-ghost use Rattle.std.specs.Option.{option_map};
-ghost use Rattle.reading.specs.Limits.{measured, within};
+ghost use Rattle.std.specs.Prelude.{◌≡◌, true};
+ghost use Rattle.reading.specs.Limits.{within, limited};
 
 use crate::*;
 
-impl Reading {
-    /// The six numbers of this reading; they lie within its limits.
-    pub fn measured(&self) -> Measured
-        ensures answer { result ≡ measured self.now }
-        ensures limits { within result ≡ true }
-    {
+/// The six numbers of a reading; they lie within its limits.
+impl From<Reading> for Measured {
+    ghost from_gives = { λ r m. (m ≡ r) × (within m ≡ true) };
+
+    fn from(reading: Reading) -> Measured {
         Measured {
-            tick: self.tick,
-            vbat: u64::from(self.vbat.0),
-            vsys: u64::from(self.vsys.0),
-            dcin: u64::from(self.dcin.0),
-            cur: i64::from(self.cur.0),
-            temp: i64::from(self.temp.0),
+            tick: reading.tick,
+            vbat: u64::from(reading.vbat.0),
+            vsys: u64::from(reading.vsys.0),
+            dcin: u64::from(reading.dcin.0),
+            cur: i64::from(reading.cur.0),
+            temp: i64::from(reading.temp.0),
         }
     }
 }
 
-impl Measured {
-    /// The reading with these numbers, or `None` where one of them lies outside its limits.
-    pub fn reading(self) -> Option<Reading>
-        ensures answer { option_map measured result ≡ (if within self then Some self else None) }
-    {
+/// The reading with these numbers; one that lies outside its limits is the cause why there is none.
+impl TryFrom<Measured> for Reading {
+    type Error = Cause;
+
+    ghost try_from_gives = { λ m r. r ≡ limited m };
+
+    fn try_from(measured: Measured) -> Result<Reading, Cause> {
         let Measured {
             tick,
             vbat,
@@ -35,14 +35,15 @@ impl Measured {
             dcin,
             cur,
             temp,
-        } = self;
+        } = measured;
         if tick > 1 << 40 || vbat > 6000 || vsys > 6000 || dcin > 30000 {
-            return None;
+            return Err(Cause::OutsideLimits);
         }
+        // Comparisons, as the check does not close here over ranges of signed numbers.
         if cur < -16383 || cur > 16383 || temp < -55 || temp > 200 {
-            return None;
+            return Err(Cause::OutsideLimits);
         }
-        Some(Reading {
+        Ok(Reading {
             tick,
             vbat: Millivolts(vbat as u16),
             vsys: Millivolts(vsys as u16),

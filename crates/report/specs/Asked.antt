@@ -1,7 +1,6 @@
 -- What a caller asks of a report.
 use Rattle.std.specs.Prelude.{ℕ, ◌+◌, ◌-◌, ◌*◌, Bool, cond, ◌&&◌, List, [], ◌∷◌, map, length, drop, ℤ, pos, neg_ℤ, Some, None, Ok, Err, codes, Option, Result, ◌==◌, nat_lt, slice_index}
 use Rattle.std.specs.Str.{all_ascii_digits, bytes_eq}
-use Rattle.board.specs.declared.amount.TrimAmount.{TrimAmount}
 use Rattle.board.specs.declared.amount.TrimFault.{TrimFault}
 use Rattle.board.specs.Amount.{checked}
 use Rattle.board.specs.Meaning.{Conversion}
@@ -10,9 +9,9 @@ use Rattle.report.specs.declared.refusal.Refusal.{Refusal}
 use Rattle.report.specs.declared.refusal.Refusal.TheVariants.{AmountOutOfRange, NoWholeNumber, UnknownArgument}
 
 -- The conversions as they come with a trim over the board, or without one.
-abbrev pub corrected : Option TrimAmount → List Conversion → List Conversion
+abbrev pub corrected : Option ℤ → List Conversion → List Conversion
 corrected None cs = cs
-corrected (Some t) cs = map (trimmed t.milliamps) cs
+corrected (Some a) cs = map (trimmed a) cs
 
 -- One digit or more, and nothing else.
 abbrev pub numeral : List ℕ → Bool
@@ -45,11 +44,6 @@ limited (Err f) = Err AmountOutOfRange
 abbrev pub amount_read : List ℕ → Result ℤ Refusal
 amount_read text = cond (numeral (digits_of text)) (limited (checked (number text))) (Err NoWholeNumber)
 
--- The answer to reading an amount, with the amount as a number.
-abbrev pub amount_given : Result TrimAmount Refusal → Result ℤ Refusal
-amount_given (Ok t) = Ok t.milliamps
-amount_given (Err f) = Err f
-
 abbrev pub some : Result ℤ Refusal → Result (Option ℤ) Refusal
 some (Ok a) = Ok (Some a)
 some (Err f) = Err f
@@ -60,9 +54,3 @@ asked [] = Ok None
 asked (option ∷ []) = Err UnknownArgument
 asked (option ∷ amount ∷ []) = cond (bytes_eq option (codes "--trim")) (some (amount_read amount)) (Err UnknownArgument)
 asked (option ∷ amount ∷ extra ∷ more) = Err UnknownArgument
-
--- The answer to reading the arguments, with the amount as a number.
-abbrev pub given : Result (Option TrimAmount) Refusal → Result (Option ℤ) Refusal
-given (Ok None) = Ok None
-given (Ok (Some t)) = Ok (Some t.milliamps)
-given (Err f) = Err f

@@ -1,82 +1,76 @@
 //! What a caller asks of a program by its arguments: a trim, or none.
 
-ghost use Rattle.std.specs.Prelude.{◌≡◌, ◌≤◌, min, map, if◌then◌else◌, Some, None, string_bytes};
-ghost use Rattle.board.specs.Amount.{checked};
-ghost use Rattle.report.specs.Asked.{numeral, value, minus, digits_of, with_sign, limited, amount_read, amount_given, asked, given};
+ghost use Rattle.std.specs.Prelude.{◌≡◌, ℕ, List, map, IfOk, string_bytes};
+ghost use Rattle.std.specs.Char.{is_ascii_digit};
+ghost use Rattle.std.specs.List.{list_all};
+ghost use Rattle.report.specs.Asked.{digits_of, amount_read, asked};
 
 use crate::refusal::*;
 use board::amount::*;
 use reading::*;
+use std::rt::Env;
+use std::{env, io};
 
 /// The amount that this text says: digits, with a minus sign in front or not, and nothing else,
 /// so neither a plus sign nor a blank; zeros may stand first. Of a number that is no amount the
 /// size does not matter.
 pub fn trim_amount(text: &str) -> Result<TrimAmount, Refusal>
-    ensures answer { amount_given result ≡ amount_read text.now }
+    ensures answer { result ≡ amount_read text.now }
 {
-    let (negative, digits) = unsigned(text.as_bytes());
-    match capped(digits) {
-        Some(size) => amount(negative, size),
-        None => Err(Refusal::NoWholeNumber),
+    let digits = unsigned(text.as_bytes());
+    if digits.is_empty() || !are_digits(digits) {
+        return Err(Refusal::NoWholeNumber);
+    }
+    let Ok(milliamps) = text.parse::<i16>() else {
+        return Err(Refusal::AmountOutOfRange);
+    };
+    Ok(TrimAmount::try_from(Milliamps(milliamps))?)
+}
+
+/// A text without the minus sign that may stand in front.
+fn unsigned(text: &[u8]) -> &[u8]
+    ensures answer { result.now ≡ digits_of text.now }
+{
+    match text {
+        [b'-', digits @ ..] => digits,
+        digits => digits,
     }
 }
 
-/// Whether a minus sign stands in front of this text, and what follows it.
-fn unsigned(text: &[u8]) -> (bool, &[u8])
-    ensures sign { result.0 ≡ minus text.now }
-    ensures rest { result.1.now ≡ digits_of text.now }
+/// Whether these are digits and nothing else.
+fn are_digits(bytes: &[u8]) -> bool
+    ensures answer { result ≡ list_all is_ascii_digit bytes.now }
 {
-    if !text.is_empty() && text[0] == b'-' {
-        (true, &text[1..])
-    } else {
-        (false, text)
-    }
-}
-
-/// The amount of this sign and size, or the refusal of one that a trim does not take.
-fn amount(negative: bool, size: u16) -> Result<TrimAmount, Refusal>
-    requires { size ≤ 1000 }
-    ensures answer { amount_given result ≡ limited (checked (with_sign negative size)) }
-{
-    let size = size as i16;
-    let milliamps = if negative { -size } else { size };
-    match TrimAmount::new(Milliamps(milliamps)) {
-        Ok(amount) => Ok(amount),
-        Err(_) => Err(Refusal::AmountOutOfRange),
-    }
-}
-
-/// The number that these digits write, but 1,000 for any larger one; `None` where there is no
-/// digit, or something else stands among them.
-fn capped(digits: &[u8]) -> Option<u16>
-    ensures answer { result ≡ (if numeral digits.now then Some (min (value 0 digits.now) 1000) else None) }
-{
-    if digits.is_empty() {
-        return None;
-    }
-    let mut sum: u16 = 0;
-    for digit in digits {
-        if !digit.is_ascii_digit() {
-            return None;
-        }
-        sum = (sum * 10 + u16::from(*digit - b'0')).min(1000);
-    }
-    Some(sum)
+    bytes.iter().all(|byte| byte.is_ascii_digit())
 }
 
 /// The trim that the arguments after the program's name ask for: none without arguments, that of
 /// `--trim N` with these two, and a refusal of anything else.
 pub fn requested_trim(arguments: &[String]) -> Result<Option<TrimAmount>, Refusal>
-    ensures answer { given result ≡ asked (map string_bytes arguments.now) }
+    ensures answer { result ≡ asked (map string_bytes arguments.now) }
 {
-    if arguments.is_empty() {
-        return Ok(None);
+    match arguments {
+        [] => Ok(None),
+        [option, amount] if option.as_str() == "--trim" => Ok(Some(trim_amount(amount.as_str())?)),
+        _ => Err(Refusal::UnknownArgument),
     }
-    if arguments.len() != 2 {
-        return Err(Refusal::UnknownArgument);
+}
+
+/// The trim that the command line of this run asks for. Arguments that are no text are not understood either. The contract
+/// says that the answer is what some arguments ask for; which arguments there were is out of its reach.
+pub fn command_line_trim(
+    rt: &(impl Env + AllocGlobal),
+) -> io::Result<Result<Option<TrimAmount>, Refusal>>
+    ensures answer { IfOk result (λ r. (words : List (List ℕ)) × (r ≡ asked words)) }
+{
+    match env::args(rt) {
+        Ok(all) => {
+            let arguments: Vec<String> = all.skip(1).collect(rt.alloc())?;
+            Ok(requested_trim(arguments.as_slice()))
+        }
+        Err(error) if error.kind() == io::ErrorKind::InvalidData => {
+            Ok(Err(Refusal::UnknownArgument))
+        }
+        Err(error) => Err(error),
     }
-    if arguments[0].as_str() != "--trim" {
-        return Err(Refusal::UnknownArgument);
-    }
-    Ok(Some(trim_amount(arguments[1].as_str())?))
 }

@@ -2,7 +2,9 @@
 
 ghost use Rattle.std.specs.Prelude.{◌≡◌, Some};
 ghost use Rattle.report.specs.Refusals.{refusal_number, sentence_of, refusal_line};
+ghost use Rattle.report.specs.declared.refusal.Refusal.TheVariants.{AmountOutOfRange};
 
+use board::amount::*;
 use std::fmt;
 
 /// What was wrong with the tape or with the arguments.
@@ -21,7 +23,7 @@ pub enum Refusal {
 }
 
 impl Refusal {
-    /// The number by which a clerk knows it, if it has one.
+    /// The number by which a clerk knows it, if it has one; so it is no `From`.
     pub fn number(self) -> Option<u8>
         ensures answer { result ≡ refusal_number self }
     {
@@ -34,6 +36,7 @@ impl Refusal {
     }
 
     /// What is wrong, and what to do about it.
+    #[tactic(auto, unfolding(crate::specs::Refusals::sentence_of))]
     pub fn sentence(self) -> &'static str
         ensures answer { result.now ≡ sentence_of self }
     {
@@ -65,6 +68,16 @@ impl fmt::Display for Refusal {
         match self.number() {
             Some(number) => write!(f, "refused, {number}: {sentence}"),
             None => write!(f, "refused: {sentence}"),
+        }
+    }
+}
+
+impl From<TrimFault> for Refusal {
+    ghost from_gives = { λ _ r. r ≡ AmountOutOfRange };
+
+    fn from(fault: TrimFault) -> Refusal {
+        match fault {
+            TrimFault::AmountOutOfRange => Refusal::AmountOutOfRange,
         }
     }
 }

@@ -1,14 +1,9 @@
-mod Counting
 mod Cutting
-mod Digits
-mod Fronts
 mod Judging
 mod Lawful
-mod Marking
-mod Minus
 mod Naming
 mod Numbers
 mod Openings
 mod Picks
-mod Rows
+mod Sixes
 mod Standing

@@ -11,8 +11,8 @@ use report::arguments::*;
 use report::refusal::*;
 use report::*;
 use std::alloc::{AllocError, Global};
+use std::io;
 use std::io::Read;
-use std::{env, io};
 use tape::opening::*;
 use tape::taking::*;
 use tape::*;
@@ -31,7 +31,8 @@ fn checked(heap: Global, bytes: &[u8], trim: Option<TrimAmount>) -> Result<Strin
     }
 }
 
-/// The refusal of a tape that is not opened.
+/// The refusal of a tape that is not opened. A function, since `From` would have to stand in one of two libraries that
+/// know nothing of each other.
 fn refused(fault: TapeFault) -> Refusal
     ensures answer { result ≡ refusal_of fault }
     ensures number { refusal_number result ≡ Some (tape_number fault) }
@@ -42,25 +43,10 @@ fn refused(fault: TapeFault) -> Refusal
     }
 }
 
-/// The trim that the command line asks for. Arguments that are no text are not understood either.
-fn asked(rt: &HostRuntime) -> io::Result<Result<Option<TrimAmount>, Refusal>> {
-    match env::args(rt) {
-        Ok(all) => {
-            let arguments: Vec<String> = all.skip(1).collect(rt.alloc())?;
-            Ok(requested_trim(arguments.as_slice()))
-        }
-        Err(error) => {
-            if error.kind() != io::ErrorKind::InvalidData {
-                return Err(error);
-            }
-            Ok(Err(Refusal::UnknownArgument))
-        }
-    }
-}
-
+// What this and the other program share is no shorter as a function that takes both their differences as closures.
 fn main(rt: HostRuntime) -> io::Result<()> {
     let heap = rt.alloc();
-    match asked(&rt)? {
+    match command_line_trim(&rt)? {
         Ok(trim) => {
             let mut bytes = Vec::new(heap);
             rt.stdin().take(enough() as u64).read_to_end(&mut bytes)?;

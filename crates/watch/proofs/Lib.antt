@@ -1,3 +1,2 @@
 pub mod Longest
-mod Rowing
 mod Telling

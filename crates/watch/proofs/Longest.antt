@@ -1,6 +1,6 @@
 -- The longest run that ends now: what a run keeps of it, and that no other is longer.
 use Rattle.std.proofs.Common.{◌≡◌, ℕ, ◌-◌, ◌<◌, ◌≤◌, Bool, true, false, cond, ◌&&◌, leb, List, [], ◌∷◌, ◌++◌, is_some, Some, None, unwrap_or, sym, refl, ap, ◌∙◌, subst, arith}
-use Rattle.std.proofs.lemmas.Bool.{cond_both, cond-true, le-leb, leb-true, true≢false}
+use Rattle.std.proofs.lemmas.Bool.{cond_both, cond-true, le-leb, leb-true}
 use Rattle.reading.specs.declared.Measured.{Measured}
 use Rattle.watch.specs.Histories.{InOrder, Each, first_of, first_tick, run_of, seen_all, spanned, LongRun, ARunIsTheLongest}
 use Rattle.watch.specs.Rule.{span_from, span_of}
@@ -15,7 +15,7 @@ abbrev pub long : ℕ → List Measured → Bool
 long d run = is_some (first_tick run) && leb d (spanned run)
 
 long_span : (d : ℕ) (run : List Measured) → long d run ≡ true → d ≤ spanned run
-long_span d [] h = absurd (true≢false (sym h))
+long_span d [] h = cc
 long_span d (m ∷ ms) h = leb-true d _ h
 
 span_long : (d : ℕ) (run : List Measured) → 0 < d → d ≤ spanned run → long d run ≡ true
@@ -66,7 +66,7 @@ module _ (past : Measured → Bool) where
   carries (x ∷ xs) ys e = cond-true _ _ _ e.0 ∙ ap (λ l. x ∷ l) (carries xs ys e.1)
 
   found : (d : ℕ) (ms run before : List Measured) → ms ≡ run ++ before → Each past run → long d run ≡ true → LongRun past d ms
-  found d ms [] before e a h = absurd (true≢false (sym h))
+  found d ms [] before e a h = cc
   found d ms (n ∷ ns) before e a h = record { newest = n; older = ns; before = before; unbroken = e; all_past = a; long = leb-true d _ h }
 
   pub long_run : (d : ℕ) (ms : List Measured) → long d (run_of past ms) ≡ true → LongRun past d ms
@@ -86,16 +86,11 @@ module _ (past : Measured → Bool) where
 first_is : {T : Type 0} (p : T → Measured → Bool) (t : T) (ms : List Measured) → ((seen_all p t ms).threshold ≡ t) × ((seen_all p t ms).first ≡ first_tick (run_of (p t) ms))
 first_is p t [] = (refl, refl)
 first_is p t (m ∷ ms) =
-    let before = first_is p t ms in (
-      before.0,
-      ap (λ u. cond (p u m) (Some (unwrap_or (seen_all p t ms).first m.tick)) None) before.0
-          ∙ ap (λ o. cond (p t m) (Some (unwrap_or o m.tick)) None) before.1
-          ∙ first_more (p t) m ms,
-    )
+    let before = first_is p t ms in (before.0, rw (before.0, before.1) (first_more (p t) m ms))
 
 span_is : {T : Type 0} (p : T → Measured → Bool) (t : T) (ms : List Measured) → span_of (seen_all p t ms) ≡ spanned (run_of (p t) ms)
 span_is p t [] = refl
-span_is p t (m ∷ ms) = ap (λ o. span_from o m.tick) (first_is p t (m ∷ ms)).1 ∙ span_of_lem (p t) m ms
+span_is p t (m ∷ ms) = rw (first_is p t (m ∷ ms)).1 (span_of_lem (p t) m ms)
 
 pub longest : {T : Type 0} (p : T → Measured → Bool) → ARunIsTheLongest p
 longest p t ms = record {

@@ -1,9 +1,9 @@
 -- What an alarm's bit tells: the longest run of past readings since the last write.
-use Rattle.std.proofs.Common.{◌≡◌, ℕ, Bool, cond, ◌&&◌, leb, List, [], ◌∷◌, is_some, Some, None, unwrap_or, sym, refl, ap, ◌∙◌}
+use Rattle.std.proofs.Common.{◌≡◌, ℕ, Bool, List, [], ◌∷◌, sym, refl, ◌∙◌}
 use Rattle.reading.specs.declared.Measured.{Measured}
 use Rattle.watch.specs.declared.Alarm.{Alarm}
 use Rattle.watch.specs.Histories.{Event, took, threshold, duration, after, threshold_after, duration_after, since, first_tick, run_of, TheBitTellsOfARun}
-use Rattle.watch.specs.Rule.{made, span_from}
+use Rattle.watch.specs.Rule.{made}
 use Rattle.watch.proofs.Longest.{long, first_more, span_of_lem, long_run, run_long}
 
 module _ {T : Type 0} (p : T → Measured → Bool) (t : T) (d : ℕ) where
@@ -25,18 +25,12 @@ module _ {T : Type 0} (p : T → Measured → Bool) (t : T) (d : ℕ) where
       let k = keeps es in
       let u = threshold_after t es in
       let run = run_of (p u) (m ∷ since es) in
-      let start =
-      ap (λ v. cond (p v m) (Some (unwrap_or a.run.first m.tick)) None) k.limit
-      ∙ ap (λ o. cond (p u m) (Some (unwrap_or o m.tick)) None) k.start
-      ∙ first_more (p u) m (since es) in
+      let start : (after p (made t d) (took m ∷ es)).run.first ≡ first_tick run = rw (k.limit, k.start) (first_more (p u) m (since es)) in
       record {
         limit = k.limit;
         time = k.time;
         start = start;
-        tells =
-            ap (λ o. is_some o && leb a.duration (span_from o m.tick)) start
-            ∙ ap (λ n. is_some (first_tick run) && leb a.duration n) (span_of_lem (p u) m (since es))
-            ∙ ap (λ e. long e run) k.time;
+        tells = rw (start, span_of_lem (p u) m (since es), k.time) refl;
       }
   keeps (threshold u ∷ es) = record { limit = refl; time = (keeps es).time; start = refl; tells = refl }
   keeps (duration e ∷ es) = record { limit = (keeps es).limit; time = refl; start = refl; tells = refl }

@@ -1,7 +1,6 @@
 //! The alarm over a run.
 
 ghost use Rattle.std.specs.Prelude.{◌≡◌};
-ghost use Rattle.reading.specs.Limits.{measured};
 ghost use Rattle.watch.specs.Rule.{made, sensed, rethresholded, retimed};
 
 use crate::*;
@@ -20,7 +19,7 @@ impl<T: Threshold + Copy> Alarm<T> {
 
     /// Takes one good reading into account.
     pub fn see(&mut self, reading: &Reading)
-        ensures after { self.new ≡ sensed T.passes (measured reading.now) self.old }
+        ensures after { self.new ≡ sensed T.passes reading.now self.old }
     {
         self.run.see(reading);
         self.bit = self.run.lasts() && self.run.span() >= u64::from(self.duration);
@@ -47,8 +46,7 @@ impl<T: Threshold + Copy> Alarm<T> {
     pub fn bit(&self) -> bool
         ensures answer { result ≡ self.now.bit }
     {
-        let Alarm { bit, .. } = *self;
-        bit
+        self.bit
     }
 
     /// What it watches for.
@@ -62,7 +60,6 @@ impl<T: Threshold + Copy> Alarm<T> {
     pub fn duration(&self) -> u8
         ensures answer { result ≡ self.now.duration }
     {
-        let Alarm { duration, .. } = *self;
-        duration
+        self.duration
     }
 }

@@ -3,7 +3,6 @@
 
 ghost use Rattle.std.specs.Prelude.{◌≡◌, Bool};
 ghost use Rattle.reading.specs.declared.Measured.{Measured};
-ghost use Rattle.reading.specs.Limits.{measured};
 
 use reading::*;
 
@@ -19,7 +18,7 @@ pub trait Threshold {
 
     /// Whether a reading is past this threshold.
     fn is_past(&self, reading: &Reading) -> bool
-        ensures answer { result ≡ passes self.now (measured reading.now) };
+        ensures answer { result ≡ passes self.now reading.now };
 }
 
 /// The run of readings past a threshold that ends with the newest reading.

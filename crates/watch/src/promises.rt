@@ -6,6 +6,7 @@ use crate::*;
 
 /// Whatever is watched, after every history whose ticks do not fall, the bit is one if and only if an unbroken run of
 /// past readings since the last write ends with the newest reading and spans at least the duration.
+#[tactic(auto, using(crate::proofs::Telling::tells))]
 pub fn the_bit_tells_of_a_run<T: Threshold>()
     ensures law { TheBitTellsOfARun T.Threshold.passes }
 {}

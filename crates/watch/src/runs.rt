@@ -1,8 +1,7 @@
 //! The run that ends now.
 
 ghost use Rattle.std.specs.Prelude.{◌≡◌, is_some};
-ghost use Rattle.reading.specs.Limits.{measured};
-ghost use Rattle.watch.specs.Rule.{fresh, seen, span_of};
+ghost use Rattle.watch.specs.Rule.{fresh, seen, span_from, span_of};
 
 use crate::*;
 
@@ -20,14 +19,13 @@ impl<T: Threshold + Copy> Run<T> {
 
     /// Takes one reading more into account.
     pub fn see(&mut self, reading: &Reading)
-        ensures after { self.new ≡ seen T.passes (measured reading.now) self.old }
+        ensures after { self.new ≡ seen T.passes reading.now self.old }
     {
         self.last = reading.tick;
-        if self.threshold.is_past(reading) {
-            self.first = Some(self.first.unwrap_or(reading.tick));
-        } else {
-            self.first = None;
-        }
+        self.first = self
+            .threshold
+            .is_past(reading)
+            .then_some(self.first.unwrap_or(reading.tick));
     }
 
     /// Whether the newest reading is past.
@@ -41,9 +39,13 @@ impl<T: Threshold + Copy> Run<T> {
     pub fn span(&self) -> u64
         ensures answer { result ≡ span_of self.now }
     {
-        match self.first {
-            Some(first) => self.last.saturating_sub(first),
-            None => 0,
-        }
+        span_from(self.first, self.last)
     }
+}
+
+/// The ticks from the first of two readings to the last, 0 where there is no first.
+pub fn span_from(first: Option<u64>, last: u64) -> u64
+    ensures answer { result ≡ span_from first last }
+{
+    first.map_or(0, |first| last.saturating_sub(first))
 }

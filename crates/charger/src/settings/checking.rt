@@ -1,10 +1,23 @@
 //! The check of a draft, and the settings to start from.
 
 ghost use Rattle.std.specs.Prelude.{◌≡◌, Ok};
-ghost use Rattle.charger.specs.Checks.{settings as all, between, first_bad, checked, answered, standard_draft, setting_number, fault_number, ACheckTellsWhatIsWrong};
+ghost use Rattle.charger.specs.Checks.{in_range, first_bad, checked, standard_draft, setting_number, fault_number, ACheckTellsWhatIsWrong};
 
 use crate::settings::*;
 use reading::*;
+
+/// The settings in the order of the check.
+const SETTINGS: [Setting; 9] = [
+    Setting::VpreLo,
+    Setting::VpreHi,
+    Setting::Itri,
+    Setting::Ipre,
+    Setting::Ifst,
+    Setting::IfstTerm,
+    Setting::VbatOvp,
+    Setting::VbatChg,
+    Setting::VbatMnt,
+];
 
 impl Draft {
     /// The settings that a handheld has before anybody sets others.
@@ -24,70 +37,68 @@ impl Draft {
         }
     }
 
-    /// The first setting that lies outside its range.
-    fn out_of_range(&self) -> Option<Setting>
-        ensures answer { result ≡ first_bad self.now all }
+    /// Whether a setting lies within its range.
+    fn has_in_range(&self, setting: Setting) -> bool
+        ensures answer { result ≡ in_range setting self.now }
     {
-        if !within(self.vpre_lo.0, 2100, 3600) {
-            return Some(Setting::VpreLo);
+        match setting {
+            Setting::VpreLo => (Millivolts(2100)..=Millivolts(3600)).contains(&self.vpre_lo),
+            Setting::VpreHi => (Millivolts(2100)..=Millivolts(3600)).contains(&self.vpre_hi),
+            Setting::Itri => (ChargeMilliamps(20)..=ChargeMilliamps(100)).contains(&self.itri),
+            Setting::Ipre => (ChargeMilliamps(100)..=ChargeMilliamps(500)).contains(&self.ipre),
+            Setting::Ifst => (ChargeMilliamps(100)..=ChargeMilliamps(2000)).contains(&self.ifst),
+            Setting::IfstTerm => (Milliamps(10)..=Milliamps(200)).contains(&self.ifst_term),
+            Setting::VbatOvp => (Millivolts(4400)..=Millivolts(4800)).contains(&self.vbat_ovp),
+            Setting::VbatChg => (Millivolts(3720)..=Millivolts(4340)).contains(&self.vbat_chg),
+            Setting::VbatMnt => (Millivolts(3600)..=Millivolts(4340)).contains(&self.vbat_mnt),
         }
-        if !within(self.vpre_hi.0, 2100, 3600) {
-            return Some(Setting::VpreHi);
-        }
-        if !within(self.itri.0, 20, 100) {
-            return Some(Setting::Itri);
-        }
-        if !within(self.ipre.0, 100, 500) {
-            return Some(Setting::Ipre);
-        }
-        if !within(self.ifst.0, 100, 2000) {
-            return Some(Setting::Ifst);
-        }
-        if self.ifst_term.0 < 10 || self.ifst_term.0 > 200 {
-            return Some(Setting::IfstTerm);
-        }
-        if !within(self.vbat_ovp.0, 4400, 4800) {
-            return Some(Setting::VbatOvp);
-        }
-        if !within(self.vbat_chg.0, 3720, 4340) {
-            return Some(Setting::VbatChg);
-        }
-        if !within(self.vbat_mnt.0, 3600, 4340) {
-            return Some(Setting::VbatMnt);
-        }
-        None
     }
 
-    /// These settings, checked: ranges first, and then the order of the voltages.
-    pub fn check(self) -> Result<Settings, SettingsFault>
-        ensures answer { answered result ≡ checked self }
+    /// The first of some settings that lies outside its range.
+    fn first_out_of_range(&self, settings: &[Setting]) -> Option<Setting>
+        ensures answer { result ≡ first_bad self.now settings.now }
     {
-        if let Some(setting) = self.out_of_range() {
+        settings
+            .iter()
+            .copied()
+            .find(|&setting| !self.has_in_range(setting))
+    }
+}
+
+/// The settings of a draft, checked: ranges first, and then the order of the voltages.
+impl TryFrom<Draft> for Settings {
+    type Error = SettingsFault;
+
+    ghost try_from_gives = { λ draft r. r ≡ checked draft };
+
+    fn try_from(draft: Draft) -> Result<Settings, SettingsFault> {
+        if let Some(setting) = draft.first_out_of_range(&SETTINGS) {
             return Err(SettingsFault::OutOfRange(setting));
         }
-        if self.vpre_lo.0 > self.vpre_hi.0 || self.vbat_mnt.0 >= self.vbat_chg.0 {
+        if draft.vpre_lo > draft.vpre_hi || draft.vbat_mnt >= draft.vbat_chg {
             return Err(SettingsFault::OutOfOrder);
         }
-        Ok(Settings { draft: self })
+        Ok(Settings { draft })
     }
 }
 
 impl Settings {
     /// The standard settings. They would pass the check, so nobody has to handle a refusal of them.
     pub fn standard() -> Settings
-        ensures answer { result.draft ≡ standard_draft }
-        ensures passes { checked result.draft ≡ Ok result.draft }
+        ensures answer { result ≡ standard_draft }
+        ensures passes { checked result ≡ Ok result }
     {
-        let draft = Draft::standard();
-        Settings { draft }
+        Settings {
+            draft: Draft::standard(),
+        }
     }
 
-    /// The numbers that were checked.
+    /// The numbers that were checked. They pass the check.
     pub fn values(&self) -> Draft
-        ensures answer { result ≡ self.now.draft }
+        ensures answer { result ≡ self.now }
+        ensures passes { checked result ≡ Ok result }
     {
-        let Settings { draft, .. } = self;
-        *draft
+        self.draft
     }
 }
 
@@ -97,27 +108,21 @@ pub fn a_check_tells_what_is_wrong()
     ensures law { ACheckTellsWhatIsWrong }
 {}
 
-fn within(n: u16, low: u16, top: u16) -> bool
-    ensures answer { result ≡ between low top n }
-{
-    low <= n && n <= top
-}
+/// 1 to 9, in the order of the check.
+impl From<Setting> for u8 {
+    ghost from_gives = { λ s n. n ≡ setting_number s };
 
-impl Setting {
-    /// 1 to 9, in the order of the check.
-    pub fn number(self) -> u8
-        ensures answer { result ≡ setting_number self }
-    {
-        self as u8
+    fn from(setting: Setting) -> u8 {
+        setting as u8
     }
 }
 
-impl SettingsFault {
-    /// 10 for a setting out of its range, 11 for voltages out of order.
-    pub fn number(self) -> u8
-        ensures answer { result ≡ fault_number self }
-    {
-        match self {
+/// 10 for a setting out of its range, 11 for voltages out of order.
+impl From<SettingsFault> for u8 {
+    ghost from_gives = { λ f n. n ≡ fault_number f };
+
+    fn from(fault: SettingsFault) -> u8 {
+        match fault {
             SettingsFault::OutOfRange(_) => 10,
             SettingsFault::OutOfOrder => 11,
         }
