@@ -1,6 +1,7 @@
 mod Cutting
 mod Judging
 mod Lawful
+mod Marking
 mod Naming
 mod Numbers
 mod Openings
