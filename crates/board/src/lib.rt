@@ -16,6 +16,11 @@ pub mod trim;
 pub trait Board {
     ghost meaning: { Self → Meaning };
 
+    // The ceiling lies from 100 to 2,000 mA. These two stand above the functions, so that a `&dyn Board` shows them too.
+    ghost lowest: { (b : Self) → 100 ≤ (meaning b).ceiling };
+
+    ghost highest: { (b : Self) → (meaning b).ceiling ≤ 2000 };
+
     /// The highest current that this board drives: fixed, from 100 to 2,000 mA.
     fn ceiling(&self) -> ChargeMilliamps
         ensures answer { result.0 ≡ (meaning self.now).ceiling };
@@ -36,9 +41,4 @@ pub trait Board {
     /// The current that it drives.
     fn driven(&self) -> ChargeMilliamps
         ensures answer { result.0 ≡ (meaning self.now).drive };
-
-    // The ceiling lies from 100 to 2,000 mA.
-    ghost lowest: { (b : Self) → 100 ≤ (meaning b).ceiling };
-
-    ghost highest: { (b : Self) → (meaning b).ceiling ≤ 2000 };
 }
