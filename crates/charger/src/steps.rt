@@ -21,7 +21,7 @@ impl Charger {
             held: false,
             input_good: false,
             over_voltage: false,
-            hot: hot_clock(),
+            hot: too_hot_clock(),
             clocks: Clocks::default(),
         }
     }

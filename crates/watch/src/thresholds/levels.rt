@@ -2,6 +2,7 @@
 
 ghost use Rattle.std.specs.Prelude.{◌≡◌, ◌*◌, pos, None};
 ghost use Rattle.watch.specs.Levels.{over_current, hotter, colder, too_hot, degrees};
+ghost use Rattle.watch.specs.Rule.{fresh};
 
 use crate::thresholds::*;
 use crate::*;
@@ -106,10 +107,26 @@ impl From<TooHot> for Hot {
 
 /// The hot clock: how long the battery has been above 58 degrees, by any threshold that is made from `TooHot`. It is a
 /// run without a duration.
-pub fn hot_clock<T: Threshold + Copy + From<TooHot>>() -> Run<T>
+pub fn hot_clock_by<T: Threshold + Copy + From<TooHot>>() -> Run<T>
     ensures threshold { T.from_gives (record {}) result.threshold }
     ensures first { result.first ≡ None }
     ensures last { result.last ≡ 0 }
 {
     Run::new(T::from(TooHot))
+}
+
+/// The hot clock by a threshold that has the number 58.
+pub fn hot_clock() -> Run<Hot>
+    ensures threshold { result.threshold ≡ pos 58 }
+    ensures first { result.first ≡ None }
+    ensures last { result.last ≡ 0 }
+{
+    hot_clock_by::<Hot>()
+}
+
+/// The same clock by a threshold that has no number in it.
+pub fn too_hot_clock() -> Run<TooHot>
+    ensures answer { result ≡ fresh (record {}) }
+{
+    hot_clock_by::<TooHot>()
 }
