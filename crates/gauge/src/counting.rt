@@ -36,6 +36,7 @@ impl Gauge {
     /// A current flows for some ticks. The charge takes it whole: nothing is rounded here.
     pub fn flow(&mut self, current: Milliamps, ticks: u64)
         ensures after { self.new ≡ flowing current.0 ticks self.old }
+        ensures top { self.new ≤ fullest }
     {
         let flow = u128::from(current.0.unsigned_abs()) * u128::from(ticks);
         let charge = u128::from(self.charge);
@@ -58,6 +59,7 @@ impl Gauge {
     /// was kept beyond the count is gone.
     pub fn write(&mut self, byte: CountByte, value: u8)
         ensures after { self.new ≡ least_for (replaced byte value (count_of self.old)) }
+        ensures top { self.new ≤ fullest }
     {
         let mut bytes = self.count().to_be_bytes();
         bytes[byte as usize] = byte.kept(value);

@@ -1,8 +1,8 @@
 //! The laws of the count, and a whole run under them.
 
-ghost use Rattle.std.specs.Prelude.{◌≡◌, List, ◌∷◌, reverse};
+ghost use Rattle.std.specs.Prelude.{◌≡◌, ◌≤◌, List, ◌∷◌, reverse};
 ghost use Rattle.gauge.specs.Charges.{kept, exact, Stayed, Close, TheCountFollowsTheCharge, TheLeastChargeHasItsCount, ACountHas28Bits, AWrittenByteIsReadBack, AnyCountCanBeWritten};
-ghost use Rattle.gauge.specs.Counts.{count_of};
+ghost use Rattle.gauge.specs.Counts.{fullest, count_of};
 
 use crate::*;
 
@@ -40,6 +40,7 @@ impl Gauge {
     /// The same gauge after one event more.
     pub fn happen(&mut self, event: Event)
         ensures after { (es : List Event) → self.old ≡ kept es → self.new ≡ kept (event ∷ es) }
+        ensures top { self.new ≤ fullest }
     {
         match event {
             Event::Flowed(current, ticks) => self.flow(current, ticks),
