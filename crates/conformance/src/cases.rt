@@ -12,30 +12,22 @@ use std::alloc::{AllocError, Global};
 #[derive(Drop)]
 pub struct Case {
     pub title: String,
-    /// The amount of the trim, as text, where there is one.
+    /// The amount of the trim, as text, where there is one; it is never empty.
     pub trim: Option<String>,
     pub input: Vec<u8>,
-    pub wanted: Wanted,
+    /// The lines of output that the case names, each with its line feed.
+    pub wanted: String,
+    pub compared: Compared,
 }
 
-/// The output that a case asks for.
-#[derive(Drop)]
-pub enum Wanted {
-    /// These lines, each with its line feed.
-    Lines(String),
-    /// Lines of which only the last counts.
-    Last(String),
+/// How output is compared with the lines that a case names.
+#[derive(Clone, Copy, PartialEq, Eq)]
+pub enum Compared {
+    Whole,
+    /// Only the last line counts.
+    Last,
     /// Some line of the case was none of those above, so nothing agrees with it.
     NotUnderstood,
-}
-
-impl Wanted {
-    pub(crate) fn text(&self) -> &str {
-        match self {
-            Wanted::Lines(lines) | Wanted::Last(lines) => lines.as_str(),
-            Wanted::NotUnderstood => "",
-        }
-    }
 }
 
 /// The cases of a file.
@@ -57,7 +49,8 @@ impl Case {
             title: String::from_str(heap, title)?,
             trim: None,
             input: Vec::new(heap),
-            wanted: Wanted::Lines(String::new(heap)),
+            wanted: String::new(heap),
+            compared: Compared::Whole,
         })
     }
 
@@ -67,7 +60,7 @@ impl Case {
             return Ok(());
         }
         if let Some(amount) = line.strip_prefix("trim ") {
-            self.trim = Some(String::from_str(heap, amount)?);
+            self.add_to_trim(heap, amount)?;
         } else if let Some(piece) = line.strip_prefix("< ") {
             self.feed(heap, piece, 1)?;
         } else if let Some(repeated) = line.strip_prefix("*") {
@@ -75,28 +68,36 @@ impl Case {
         } else if let Some(text) = line.strip_prefix("> ") {
             self.expect(text)?;
         } else if let Some(text) = line.strip_prefix("last ") {
-            self.expect_last(heap, text)?;
+            self.expect_last(text)?;
         } else {
-            self.wanted = Wanted::NotUnderstood;
+            self.compared = Compared::NotUnderstood;
         }
         Ok(())
     }
 
-    /// Adds a line of output.
-    fn expect(&mut self, text: &str) -> Result<(), AllocError> {
-        match &mut self.wanted {
-            Wanted::Lines(lines) | Wanted::Last(lines) => {
-                lines.push_str(text)?;
-                lines.push('\n')
+    /// Adds to the amount of the trim. The text of a second line goes on from that of the first, and without text there is
+    /// no trim.
+    fn add_to_trim(&mut self, heap: Global, amount: &str) -> Result<(), AllocError> {
+        match &mut self.trim {
+            Some(text) => text.push_str(amount),
+            None if amount.is_empty() => Ok(()),
+            None => {
+                self.trim = Some(String::from_str(heap, amount)?);
+                Ok(())
             }
-            Wanted::NotUnderstood => Ok(()),
         }
     }
 
-    /// Adds a line of output, of which only the last counts from now on.
-    fn expect_last(&mut self, heap: Global, text: &str) -> Result<(), AllocError> {
-        if let Wanted::Lines(_) = self.wanted {
-            self.wanted = Wanted::Last(String::new(heap));
+    /// Adds a line of output.
+    fn expect(&mut self, text: &str) -> Result<(), AllocError> {
+        self.wanted.push_str(text)?;
+        self.wanted.push('\n')
+    }
+
+    /// Adds a line of output, and only the last one counts from now on.
+    fn expect_last(&mut self, text: &str) -> Result<(), AllocError> {
+        if self.compared == Compared::Whole {
+            self.compared = Compared::Last;
         }
         self.expect(text)
     }
@@ -109,7 +110,7 @@ impl Case {
         match counted {
             Some((count, piece)) => self.feed(heap, piece, count),
             None => {
-                self.wanted = Wanted::NotUnderstood;
+                self.compared = Compared::NotUnderstood;
                 Ok(())
             }
         }
@@ -164,7 +165,10 @@ fn named(letter: u8) -> u8 {
     }
 }
 
-/// The value of a hexadecimal digit.
+/// The value of a hexadecimal digit with upper letters; anything else counts as 0.
 fn digit(byte: u8) -> u8 {
-    char::from(byte).to_digit(16).map_or(0, |value| value as u8)
+    match char::from(byte).to_digit(16) {
+        Some(value) if !byte.is_ascii_lowercase() => value as u8,
+        _ => 0,
+    }
 }

@@ -45,7 +45,7 @@ where
         };
         if !tally.right(agrees(case, came.as_str())) {
             let title = case.title.as_str();
-            let wanted = case.wanted.text();
+            let wanted = case.wanted.as_str();
             println!(rt; "{title}: expected {wanted:?}, came {came:?}")?;
         }
     }
@@ -54,10 +54,11 @@ where
 
 /// Whether this is the output that the case asks for.
 fn agrees(case: &Case, came: &str) -> bool {
-    match &case.wanted {
-        Wanted::Lines(lines) => came == lines.as_str(),
-        Wanted::Last(lines) => came.lines().last() == lines.as_str().lines().last(),
-        Wanted::NotUnderstood => false,
+    let wanted = case.wanted.as_str();
+    match case.compared {
+        Compared::Whole => came == wanted,
+        Compared::Last => came.lines().last() == wanted.lines().last(),
+        Compared::NotUnderstood => false,
     }
 }
 

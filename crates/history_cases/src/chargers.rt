@@ -33,13 +33,10 @@ impl Trial for Charging {
 
     fn agrees(&mut self, heap: Global, line: &str) -> Result<bool, AllocError> {
         match line.split_once(" = ") {
-            Some((event, wanted)) => {
-                let Some(charger) = self.happen(event) else {
-                    return Ok(false);
-                };
-                let came = shown(heap, charger, self.ceiling)?;
-                Ok(came.as_str() == wanted)
-            }
+            Some((event, wanted)) => match self.happen(event) {
+                Some(charger) => Ok(shown(heap, charger, self.ceiling)?.as_str() == wanted),
+                None => Ok(wanted == "not understood"),
+            },
             None => Ok(self.prepare(line).is_some()),
         }
     }
