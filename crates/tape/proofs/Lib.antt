@@ -1,3 +1,4 @@
+mod Counting
 mod Cutting
 mod Judging
 mod Lawful
@@ -6,5 +7,4 @@ mod Naming
 mod Numbers
 mod Openings
 mod Picks
-mod Sixes
 mod Standing
