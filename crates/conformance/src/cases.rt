@@ -2,9 +2,11 @@
 //!
 //! `trim N` puts a trim over the board, `< TEXT` is a piece of input and `*N TEXT` the same N times
 //! over, `> TEXT` is a line of output, and `last TEXT` the last one, where only that counts. A line
-//! that begins with `#` is a comment.
+//! that begins with `#` is a comment. The letters of an escape `\xHH` are upper ones; any other
+//! byte there counts as 0. Texts of several `trim` lines are one text, and an empty one is no trim.
 
-ghost use Rattle.std.specs.Prelude.{◌<◌, length, IfSome};
+ghost use Rattle.std.specs.Prelude.{◌≡◌, ◌+◌, ◌<◌, ◌≤◌, [], ◌∷◌, ◌++◌, length, None, IfSome, OnOk, string_bytes};
+ghost use Rattle.conformance.specs.Asked.{amount_text, lasting};
 
 use std::alloc::{AllocError, Global};
 
@@ -77,7 +79,10 @@ impl Case {
 
     /// Adds to the amount of the trim. The text of a second line goes on from that of the first, and without text there is
     /// no trim.
-    fn add_to_trim(&mut self, heap: Global, amount: &str) -> Result<(), AllocError> {
+    fn add_to_trim(&mut self, heap: Global, amount: &str) -> Result<(), AllocError>
+        ensures joined { OnOk result (amount_text self.new.trim ≡ amount_text self.old.trim ++ amount.now) }
+        ensures none { self.old.trim ≡ None → amount.now ≡ [] → self.new.trim ≡ None }
+    {
         match &mut self.trim {
             Some(text) => text.push_str(amount),
             None if amount.is_empty() => Ok(()),
@@ -89,13 +94,19 @@ impl Case {
     }
 
     /// Adds a line of output.
-    fn expect(&mut self, text: &str) -> Result<(), AllocError> {
+    fn expect(&mut self, text: &str) -> Result<(), AllocError>
+        ensures lines { OnOk result (string_bytes self.new.wanted ≡ string_bytes self.old.wanted ++ (text.now ++ (10 ∷ []))) }
+        ensures compared { self.new.compared ≡ self.old.compared }
+    {
         self.wanted.push_str(text)?;
         self.wanted.push('\n')
     }
 
     /// Adds a line of output, and only the last one counts from now on.
-    fn expect_last(&mut self, text: &str) -> Result<(), AllocError> {
+    fn expect_last(&mut self, text: &str) -> Result<(), AllocError>
+        ensures lines { OnOk result (string_bytes self.new.wanted ≡ string_bytes self.old.wanted ++ (text.now ++ (10 ∷ []))) }
+        ensures compared { self.new.compared ≡ lasting self.old.compared }
+    {
         if self.compared == Compared::Whole {
             self.compared = Compared::Last;
         }
@@ -166,7 +177,11 @@ fn named(letter: u8) -> u8 {
 }
 
 /// The value of a hexadecimal digit with upper letters; anything else counts as 0.
-fn digit(byte: u8) -> u8 {
+fn digit(byte: u8) -> u8
+    ensures figure { 48 ≤ byte → byte ≤ 57 → result + 48 ≡ byte }
+    ensures upper { 65 ≤ byte → byte ≤ 70 → result + 55 ≡ byte }
+    ensures other { 71 ≤ byte → result ≡ 0 }
+{
     match char::from(byte).to_digit(16) {
         Some(value) if !byte.is_ascii_lowercase() => value as u8,
         _ => 0,

@@ -2,6 +2,10 @@
 //! says which come to something else than they should.
 #![tactic(auto)]
 
+ghost use Rattle.std.specs.Prelude.{◌≡◌, false, string_bytes};
+ghost use Rattle.std.specs.Str.{bytes_eq};
+ghost use Rattle.conformance.specs.declared.cases.Compared.TheVariants.{Whole, NotUnderstood};
+
 use board::amount::*;
 use cases::*;
 use frames::*;
@@ -53,7 +57,10 @@ where
 }
 
 /// Whether this is the output that the case asks for.
-fn agrees(case: &Case, came: &str) -> bool {
+fn agrees(case: &Case, came: &str) -> bool
+    ensures whole { case.now.compared ≡ Whole → result ≡ bytes_eq came.now (string_bytes case.now.wanted) }
+    ensures not_understood { case.now.compared ≡ NotUnderstood → result ≡ false }
+{
     let wanted = case.wanted.as_str();
     match case.compared {
         Compared::Whole => came == wanted,

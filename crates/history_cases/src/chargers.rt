@@ -5,6 +5,9 @@
 //! code and the drive that it should lead to: `read` with the numbers of a reading, `reset on`,
 //! `reset off`, `hold` or `release`.
 
+ghost use Rattle.std.specs.Prelude.{◌≡◌, None, Ok, codes};
+ghost use Rattle.std.specs.Str.{bytes_eq};
+
 use crate::cases::*;
 use crate::drafts::*;
 use charger::settings::checking::*;
@@ -33,10 +36,10 @@ impl Trial for Charging {
 
     fn agrees(&mut self, heap: Global, line: &str) -> Result<bool, AllocError> {
         match line.split_once(" = ") {
-            Some((event, wanted)) => match self.happen(event) {
-                Some(charger) => Ok(shown(heap, charger, self.ceiling)?.as_str() == wanted),
-                None => Ok(wanted == "not understood"),
-            },
+            Some((event, wanted)) => {
+                let charger = self.happen(event);
+                shows(heap, charger, self.ceiling, wanted)
+            }
             None => Ok(self.prepare(line).is_some()),
         }
     }
@@ -72,6 +75,21 @@ impl Charging {
             Some(charger) => Some(charger),
             None => Some(Charger::new(Settings::try_from(self.draft).ok()?)),
         }
+    }
+}
+
+/// Whether a charger shows what a case wants. Where an event was not understood there is none, and a case may want that.
+fn shows(
+    heap: Global,
+    charger: Option<Charger>,
+    ceiling: ChargeMilliamps,
+    wanted: &str,
+) -> Result<bool, AllocError>
+    ensures none { charger ≡ None → result ≡ Ok (bytes_eq wanted.now (codes "not understood")) }
+{
+    match charger {
+        Some(charger) => Ok(shown(heap, charger, ceiling)?.as_str() == wanted),
+        None => Ok(wanted == "not understood"),
     }
 }
 
